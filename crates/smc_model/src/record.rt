@@ -1,0 +1,42 @@
+ghost use Rattle.std.specs.Prelude.{◌≡◌, IfOk, length};
+
+use smc_words::NoMemory;
+use std::alloc::Global;
+use std::marker;
+
+/// The words of a record, one for each field, in order.
+#[derive(Debug, Drop)]
+pub struct Record {
+    words: Vec<u64>,
+}
+
+impl marker::Model for Record {
+    ghost use Rattle.std.specs.Prelude.{List, ℕ};
+
+    ghost Value = { List ℕ };
+
+    ghost view = { λ r. r.words.items };
+}
+
+impl Record {
+    pub fn of(alloc: Global, words: &[u64]) -> Result<Self, NoMemory>
+        ensures done { IfOk result (λ r. r ≡ words.now) }
+    {
+        Ok(Record {
+            words: Vec::from_slice(alloc, words)?,
+        })
+    }
+
+    pub fn words(&self) -> &[u64]
+        ensures { result.now ≡ self.now }
+    {
+        &self.words
+    }
+
+    /// How many fields there are.
+    pub fn len(&self) -> usize
+        ensures { result ≡ length self.now }
+    {
+        self.words.len()
+    }
+}
