@@ -1,0 +1,10 @@
+pub mod Counts
+pub mod Cuts
+pub mod Endings
+pub mod Kept
+pub mod LineLaws
+pub mod OneReading
+pub mod RowWorld
+pub mod TableRows
+pub mod Taking
+pub mod ThreeFields

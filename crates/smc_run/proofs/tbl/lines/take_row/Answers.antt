@@ -1,0 +1,17 @@
+use Rattle.std.proofs.Common.{take, Err}
+use Rattle.std.specs.Io.KnownBytes.{prepend_known}
+use Rattle.smc_run.specs.Reading.{Reads}
+use Rattle.smc_run.proofs.Taking.{told-taken, Reads-refused}
+use Rattle.smc_run.proofs.tbl.lines.take_row.Goals as goal
+
+pub returns-in-Err-clause-reads : goal.returns-in-Err-clause-reads
+returns-in-Err-clause-reads g c =
+    let left = g.S.Source.left in
+    let found = c.in_ok-found.ensures in
+    let line = c.in-Line.line in
+    let fits = rw (c.in-Some.is, c.in-Line.is) at found.within in
+    let first = rw (c.in-Some.is, c.in-Line.is) at found.found in
+    let refused = c.in-Err.ensures in
+    told-taken (prepend_known c.args.buffer.now (left c.args.source.now)) c.find_line.new.buffer (left c.find_line.new.source) c.take_line.new.buffer
+    line.size line.taken (Reads c.args.schema.now (Err c.in-Err.fault)) found.kept first fits.0 fits.1 refused.taken
+    (λ text later is. Reads-refused c.args.schema.now c.in-Err.fault (take line.size c.find_line.new.buffer) text later is refused.gives)

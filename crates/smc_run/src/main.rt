@@ -1,0 +1,46 @@
+//! `smc`: the program. Its words say what it does; it reads standard input and writes standard output.
+//!
+//! `top` does all of it over any source and sink, `tally` reads a table and tells how many rows it has, `tbl` is the
+//! reader of table text, and `status` says how the program ends. It stands on all other crates, and nothing stands on
+//! it. Here only the real input and output are made; `specs/Tally.antt` defines what is read and written.
+#![tactic(auto)]
+
+pub mod status;
+pub mod tally;
+pub mod tbl;
+pub mod top;
+
+use smc_outside::{StdSink, StdSource};
+use status::Status;
+use std::process::ExitCode;
+use std::rt::Env;
+use std::{env, io};
+use top::top;
+
+// The words of the command line, behind the program's name. Bytes that are no text are wrong words.
+fn words<R: Env + AllocGlobal>(rt: &R) -> Result<Vec<String>, Status> {
+    let mut words = Vec::new(rt.alloc());
+    let args = match env::args(rt) {
+        Ok(args) => args,
+        Err(error) if error.kind() == io::ErrorKind::OutOfMemory => return Err(Status::NoMemory),
+        Err(_) => return Err(Status::BadWords),
+    };
+    for word in args.skip(1) {
+        words.push(word).map_err(|_| Status::NoMemory)?;
+    }
+    Ok(words)
+}
+
+fn main(rt: HostRuntime) -> ExitCode {
+    let mut input = StdSource::new(rt.reader());
+    let mut out = StdSink::new(io::writer(&rt));
+    let status = match words(&rt) {
+        Ok(words) => top(rt.alloc(), &words, &mut input, &mut out),
+        Err(status) => status,
+    };
+    if status != Status::Done {
+        // Where standard error is closed there is nobody to tell.
+        let _ = eprintln!(rt; "{status}");
+    }
+    ExitCode::from(status.code())
+}
