@@ -1,1 +1,4 @@
+pub mod Dir
+pub mod Entry
 pub mod Number
+pub mod RoundWord

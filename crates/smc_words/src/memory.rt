@@ -25,3 +25,17 @@ impl<T: Drop> From<AllocFailed<T>> for NoMemory {
         NoMemory
     }
 }
+
+#[cfg(test)]
+mod tests {
+    use super::*;
+    use std::test::Fail;
+
+    #[test]
+    fn says_no_memory(rt: HostRuntime) -> Result<(), Fail> {
+        let alloc = rt.alloc();
+        let said = format!(in alloc; "{NoMemory}")?;
+        assert_eq!(rt; said.as_str(), "no memory");
+        Ok(())
+    }
+}
