@@ -1,16 +1,20 @@
 -- What an event makes of a world, in the words that callers use.
-use Rattle.std.proofs.Common.{◌≡◌, ◌==◌, ◌+◌, ◌<◌, ℕ, Bool, true, false, cond, Some, None, List, [], ◌∷◌, ◌++◌, map, length, length-append, sym, ap, ◌∙◌, arith}
+use Rattle.std.proofs.Common.{◌≡◌, ◌==◌, ◌+◌, ◌<◌, ℕ, Bool, true, false, cond, Option, Some, None, IsSome, option_map, refl, subst, List, [], ◌∷◌, ◌++◌, map, length, length-append, sym, ap, ◌∙◌, arith}
 use Rattle.std.specs.Prelude.{filter, sum_by, slice_index, All}
-use Rattle.std.specs.FinMap.{entries, len-entries, len-empty, get-empty, get-insert}
-use Rattle.std.specs.Ordering.{eq_by_cmp}
+use Rattle.std.specs.FinMap.{insert, entries, len-entries, len-empty, get-empty, get-insert}
+use Rattle.std.specs.Ordering.{eq_by_cmp, is_eq}
+use Rattle.std.specs.declared.cmp.Ordering.{Ordering}
+use Rattle.std.specs.declared.cmp.Ordering.TheVariants.{Less, Equal, Greater}
+use Rattle.std.specs.Option.{option_map_or}
 use Rattle.std.proofs.lemmas.List.Elements.{filter-append, All-append, All-cons, All-same, All-nil, All-head, All-tail}
 use Rattle.std.proofs.lemmas.List.Sums.{sum_by-append, sum_by-cons}
 use Rattle.smc_words.specs.declared.number.Number.{Number}
 use Rattle.smc_words.specs.Number.{number_cmp}
-use Rattle.smc_words.proofs.NumberLaws.{numbers_total}
+use Rattle.smc_words.proofs.NumberLaws.{numbers_total, exact_numbers}
 use Rattle.smc_model.specs.declared.object.Object.{Object}
-use Rattle.smc_model.specs.declared.event.Event.TheVariants.{Add}
-use Rattle.smc_model.specs.World.{World, empty_world, object_of, is_present_in, present_in, count_of, HasField, total_of, new_object, world_after}
+use Rattle.smc_model.specs.declared.event.Event.{Event}
+use Rattle.smc_model.specs.declared.event.Event.TheVariants.{Add, Write, Remove}
+use Rattle.smc_model.specs.World.{World, empty_world, object_of, is_present_in, present_in, count_of, HasField, total_of, new_object, with_word, removed, changed_at, world_after, world_through}
 use Rattle.std.proofs.lemmas.List.{nil_from_length}
 use Rattle.smc_model.proofs.MapLaws.{values-insert}
 
@@ -98,3 +102,57 @@ module _ (world : World) (number : Number) (coll : ℕ) (words : List ℕ) where
       let t = present_in-added h chosen in
       let P : Object → Type 0 = λ object. field < length object.words in
       All-same P _ _ t.3 (one_more (coll == chosen) P t.0 t.1 _ (All-same P _ _ (sym t.2) all) long)
+
+-- a world with an object changed
+
+-- a comparison that says so
+equal_from_is_eq : (r : Ordering) → is_eq r ≡ true → r ≡ Equal
+equal_from_is_eq Equal h = refl
+equal_from_is_eq Less h = cc
+equal_from_is_eq Greater h = cc
+
+-- numbers that compare alike are one
+pub same_number : (m n : Number) → eq_by_cmp number_cmp m n ≡ true → m ≡ n
+same_number m n same = exact_numbers m n (equal_from_is_eq _ same)
+
+-- the object is changed, if there is one, and each other number has what it had
+pub object_of-changed : (world : World) (number : Number) (change : Object → Object) (other : Number)
+    → object_of (changed_at world number change) other ≡ cond (eq_by_cmp number_cmp other number) (option_map change (object_of world number)) (object_of world other)
+object_of-changed world number change other = elim (object_of world number) as (λ o. object_of world number ≡ o
+    → object_of (option_map_or (λ object. insert world number (change object)) o world) other ≡ cond (eq_by_cmp number_cmp other number) (option_map change o) (object_of world other)) [
+      | None ↦ λ none. elim (eq_by_cmp number_cmp other number) as (λ b. eq_by_cmp number_cmp other number ≡ b → object_of world other ≡ cond b None (object_of world other)) [
+        | true ↦ λ same. ap (object_of world) (same_number other number same) ∙ none
+        | false ↦ λ _. refl
+      ] refl
+      | Some object ↦ λ _. get-insert numbers_total world number (change object) other
+    ] refl
+
+-- one of two answers, each of which is something
+either_is : {X : Type 0} (b : Bool) (x y : Option X) → IsSome x → IsSome y → IsSome (cond b x y)
+either_is true x y p q = p
+either_is false x y p q = q
+
+some_map : {X Y : Type 0} (f : X → Y) (o : Option X) → IsSome o → IsSome (option_map f o)
+some_map f (Some x) h = refl
+some_map f None h = cc
+
+given_changed : (world : World) (number : Number) → IsSome (object_of world number) → (at : Number) (change : Object → Object) → IsSome (object_of (changed_at world at change) number)
+given_changed world number given at change =
+    rw object_of-changed (elim (eq_by_cmp number_cmp number at) as (λ b. eq_by_cmp number_cmp number at ≡ b → IsSome (cond b (option_map change (object_of world at)) (object_of world number))) [
+      | true ↦ λ same. some_map change _ (subst (λ (n : Number). IsSome (object_of world n)) (same_number number at same) given)
+      | false ↦ λ _. given
+    ] refl)
+
+-- no number is taken out
+
+-- what an event leaves of a number that was given
+pub given_after : (world : World) (number : Number) → IsSome (object_of world number) → (event : Event) → IsSome (object_of (world_after world event) number)
+given_after world number given (Add added coll words) = rw object_of-added (either_is (eq_by_cmp number_cmp number added) _ _ refl given)
+given_after world number given (Write written field value) = given_changed world number given written (λ object. with_word object field value)
+given_after world number given (Remove gone first) = given_changed world number given gone removed
+given_after world number given _ = given
+
+-- and what events leave
+pub given_through : (world : World) (number : Number) → IsSome (object_of world number) → (events : List Event) → IsSome (object_of (world_through world events) number)
+given_through world number given [] = given
+given_through world number given (event ∷ events) = given_through (world_after world event) number (given_after world number given event) events

@@ -1,2 +1,5 @@
+pub mod Examples
+pub mod Order
+pub mod Scans
 pub mod Tree
 pub mod World

@@ -1,17 +1,14 @@
-ghost use Rattle.std.specs.Prelude.{◌≡◌, OnErr, IsSome, length};
-ghost use Rattle.std.specs.BTreeMap.{get, IsUnchanged};
-ghost use Rattle.smc_words.specs.Number.{number_cmp};
-ghost use Rattle.smc_model.specs.Tree.{SetsAt};
-ghost use Rattle.smc_model.specs.World.{new_object, empty_world, Fits, IsAllowed, count_of, total_of, HasField};
+ghost use Rattle.std.specs.Prelude.{◌≡◌, OnErr};
+ghost use Rattle.smc_model.specs.World.{empty_world, is_present, word_of, Fits, IsAllowed, IsAdd, count_of, total_of, HasField};
 
+use crate::tree::{mark_removed, put_new, write_word};
 use crate::{Event, Object, Record, Reply};
-use smc_words::{NoMemory, Number};
+use smc_words::{BLANK, NoMemory, Number};
 use std::alloc::Global;
 use std::collections::BTreeMap;
-use std::collections::btree_map::Entry;
 use std::marker;
 
-/// A plain world that runs. It is slow and simple: it says what the answers have to be.
+/// A plain world that runs: all objects in one map, and every event at one moment.
 #[derive(Drop)]
 pub struct Model {
     alloc: Global,
@@ -40,12 +37,16 @@ impl Model {
         }
     }
 
-    /// Lets an event happen where it fits.
+    /// Lets an event happen where it fits. Where it does not, or memory is refused, the world stays as it was.
     pub fn apply(&mut self, event: &Event) -> Result<Reply, NoMemory>
         ensures done { result ≡ Ok Reply.Fits → Fits self.old event.now self.new }
         ensures cause { result ≡ Ok Reply.Unfit → ¬ (IsAllowed self.old event.now) }
         ensures kept { result ≡ Ok Reply.Unfit → self.new ≡ self.old }
         ensures kept_at_err { OnErr result (self.new ≡ self.old) }
+
+        // Memory is wanted only where an object is added.
+        ensures adding { OnErr result (IsAdd event.now) }
+        ensures allowed { OnErr result (IsAllowed self.old event.now) }
     {
         match event {
             Event::Add {
@@ -53,20 +54,76 @@ impl Model {
                 coll,
                 words,
             } => self.add(*number, *coll, words),
+            Event::Look { number, here } => Ok(Reply::of(self.is_present(*number) == *here)),
+            Event::Read {
+                number,
+                field,
+                value,
+            } => Ok(Reply::of(self.word(*number, *field) == Some(*value))),
+            Event::Write {
+                number,
+                field,
+                value,
+            } => Ok(self.write(*number, *field, *value)),
+            Event::Remove { number, first } => Ok(self.remove(*number, *first)),
+            Event::Begin { .. }
+            | Event::Visit { .. }
+            | Event::End { .. }
+            | Event::Enter
+            | Event::Leave
+            | Event::Told { .. }
+            | Event::Refused { .. } => Ok(Reply::Fits),
         }
     }
 
-    // Adds an object to the collection that its number names.
     fn add(&mut self, number: Number, coll: u8, words: &Record) -> Result<Reply, NoMemory>
         ensures done { result ≡ Ok Reply.Fits → Fits self.old (Event.Add number coll words.now) self.new }
         ensures cause { result ≡ Ok Reply.Unfit → ¬ (IsAllowed self.old (Event.Add number coll words.now)) }
         ensures kept { result ≡ Ok Reply.Unfit → self.new ≡ self.old }
         ensures kept_at_err { OnErr result (self.new ≡ self.old) }
+        ensures allowed { OnErr result (IsAllowed self.old (Event.Add number coll words.now)) }
     {
         if number.coll != coll {
             return Ok(Reply::Unfit);
         }
         put_new(self.alloc, &mut self.objects, number, words)
+    }
+
+    fn is_present(&self, number: Number) -> bool
+        ensures { result ≡ is_present self.now number }
+    {
+        match self.objects.get(&number) {
+            Some(object) => object.present,
+            None => false,
+        }
+    }
+
+    fn word(&self, number: Number, field: u32) -> Option<u64>
+        ensures { result ≡ word_of self.now number field }
+    {
+        match self.objects.get(&number) {
+            Some(object) => object.words.word(field),
+            None => None,
+        }
+    }
+
+    fn write(&mut self, number: Number, field: u32, value: u64) -> Reply
+        ensures done { result ≡ Reply.Fits → Fits self.old (Event.Write number field value) self.new }
+        ensures cause { result ≡ Reply.Unfit → ¬ (IsAllowed self.old (Event.Write number field value)) }
+        ensures kept { result ≡ Reply.Unfit → self.new ≡ self.old }
+    {
+        if value == BLANK {
+            return Reply::Unfit;
+        }
+        write_word(&mut self.objects, number, field, value)
+    }
+
+    fn remove(&mut self, number: Number, first: bool) -> Reply
+        ensures done { result ≡ Reply.Fits → Fits self.old (Event.Remove number first) self.new }
+        ensures cause { result ≡ Reply.Unfit → ¬ (IsAllowed self.old (Event.Remove number first)) }
+        ensures kept { result ≡ Reply.Unfit → self.new ≡ self.old }
+    {
+        mark_removed(&mut self.objects, number, first)
     }
 
     /// How many present objects the collection has.
@@ -97,84 +154,5 @@ impl Model {
     }
 }
 
-// Puts an object under a number that the map has not, in one search.
-fn put_new(
-    alloc: Global,
-    objects: &mut BTreeMap<Number, Object>,
-    number: Number,
-    words: &Record,
-) -> Result<Reply, NoMemory>
-    ensures done { result ≡ Ok Reply.Fits → SetsAt objects.old objects.new number (new_object number.coll words.now) }
-    ensures absent { result ≡ Ok Reply.Fits → get number_cmp objects.old number ≡ None }
-    ensures cause { result ≡ Ok Reply.Unfit → IsSome (get number_cmp objects.old number) }
-    ensures kept { result ≡ Ok Reply.Unfit → IsUnchanged objects.old objects.new }
-    ensures kept_at_err { OnErr result (IsUnchanged objects.old objects.new) }
-{
-    match objects.entry(number)? {
-        Entry::Occupied(_) => Ok(Reply::Unfit),
-        Entry::Vacant(place) => {
-            let words = Record::of(alloc, words.words())?;
-            place.insert(Object {
-                coll: number.coll,
-                words,
-                present: true,
-            });
-            Ok(Reply::Fits)
-        }
-    }
-}
-
 #[cfg(test)]
-mod tests {
-    use super::*;
-
-    #[test]
-    fn an_object_is_added_once(rt: HostRuntime) -> Result<(), NoMemory> {
-        let alloc = rt.alloc();
-        let mut model = Model::new(alloc);
-        let number = Number {
-            incarnation: 1,
-            entry: 0,
-            coll: 0,
-        };
-        let event = Event::Add {
-            number,
-            coll: 0,
-            words: Record::of(alloc, &[5, 7])?,
-        };
-        assert_eq!(rt; model.apply(&event)?, Reply::Fits);
-        assert_eq!(rt; model.apply(&event)?, Reply::Unfit);
-        assert_eq!(rt; model.count(0), 1);
-        assert_eq!(rt; model.count(1), 0);
-        Ok(())
-    }
-
-    // Adds an object of two words, the second the largest that there is.
-    fn add_largest(alloc: Global, model: &mut Model, entry: u32) -> Result<Reply, NoMemory>
-        requires { HasField model.old 2 1 }
-        ensures { HasField model.new 2 1 }
-    {
-        let number = Number {
-            incarnation: 1,
-            entry,
-            coll: 2,
-        };
-        let words = Record::of(alloc, &[1, u64::MAX])?;
-        model.apply(&Event::Add {
-            number,
-            coll: 2,
-            words,
-        })
-    }
-
-    #[test]
-    fn a_total_may_pass_a_word(rt: HostRuntime) -> Result<(), NoMemory> {
-        let alloc = rt.alloc();
-        let mut model = Model::new(alloc);
-        assert_eq!(rt; model.total(2, 1), 0);
-        assert_eq!(rt; add_largest(alloc, &mut model, 7)?, Reply::Fits);
-        assert_eq!(rt; add_largest(alloc, &mut model, 3)?, Reply::Fits);
-        assert_eq!(rt; model.total(2, 1), 36_893_488_147_419_103_230);
-        Ok(())
-    }
-}
+mod tests;

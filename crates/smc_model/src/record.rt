@@ -1,4 +1,4 @@
-ghost use Rattle.std.specs.Prelude.{◌≡◌, IfOk, length};
+ghost use Rattle.std.specs.Prelude.{◌≡◌, ◌==◌, ◌<◌, IfOk, length, slice_get, slice_set};
 
 use smc_words::NoMemory;
 use std::alloc::Global;
@@ -38,5 +38,24 @@ impl Record {
         ensures { result ≡ length self.now }
     {
         self.words.len()
+    }
+
+    pub fn is_empty(&self) -> bool
+        ensures { result ≡ (length self.now == 0) }
+    {
+        self.words.is_empty()
+    }
+
+    pub(crate) fn word(&self, field: u32) -> Option<u64>
+        ensures { result ≡ slice_get self.now field }
+    {
+        self.words.get(field as usize).copied()
+    }
+
+    pub(crate) fn set(&mut self, field: usize, word: u64)
+        requires { field < length self.old }
+        ensures { self.new ≡ slice_set self.old field word }
+    {
+        self.words[field] = word;
     }
 }

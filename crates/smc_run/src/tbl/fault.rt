@@ -7,7 +7,7 @@ use thiserror::Error;
 
 /// Why a line is no row, or why there is no next row.
 ///
-/// The first six are faults of a line, in the order in which docs/FORMATS.md tests it.
+/// The first six are faults of a line: docs/FORMATS.md has the order in which a line is tested, and the first counts.
 #[derive(Clone, Copy, Debug, PartialEq, Eq, Error)]
 pub enum TblFault {
     #[error("the line has another number of fields than the table has columns")]

@@ -1,6 +1,6 @@
 use Rattle.std.proofs.Common.{rules, ◌≡◌, ap, ◌∙◌}
 use Rattle.smc_model.specs.World.{new_object}
-use Rattle.smc_model.proofs.model.put_new.Goals as goal
+use Rattle.smc_model.proofs.tree.put_new.Goals as goal
 
 pub returns-in_ok-words-in-Vacant-clause-done : goal.returns-in_ok-words-in-Vacant-clause-done
 returns-in_ok-words-in-Vacant-clause-done c _ other =
