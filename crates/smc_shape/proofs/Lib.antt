@@ -1,0 +1,4 @@
+pub mod AskedLaws
+pub mod PlaceLaws
+pub mod RowLaws
+pub mod SpanLaws

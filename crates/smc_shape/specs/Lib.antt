@@ -1,0 +1,4 @@
+pub mod Layout
+pub mod Faults
+pub mod Places
+pub mod Span
