@@ -38,7 +38,7 @@ fn main(rt: HostRuntime) -> ExitCode {
         Ok(words) => top(rt.alloc(), &words, &mut input, &mut out),
         Err(status) => status,
     };
-    if status != Status::Done {
+    if !matches!(status, Status::Done) {
         // Where standard error is closed there is nobody to tell.
         let _ = eprintln!(rt; "{status}");
     }

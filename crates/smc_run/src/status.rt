@@ -3,28 +3,48 @@ ghost use Rattle.smc_run.specs.declared.status.Status.TheVariants as status;
 
 use smc_words::NoMemory;
 use std::fmt;
+use std::marker::Model;
 
-/// The name of a file, relative to the current folder.
-#[derive(Debug, PartialEq, Eq, Drop)]
+/// The name of a file, relative to the current folder. Contracts see its bytes.
+#[derive(Debug, Drop)]
 pub struct FileName {
-    name: String,
+    text: String,
+}
+
+impl Model for FileName {
+    ghost use Rattle.std.specs.Prelude.{List, ℕ, string_bytes};
+
+    ghost Value = { List ℕ };
+
+    ghost view = { λ name. string_bytes name.text };
 }
 
 impl FileName {
-    /// The file of this name.
-    pub fn of(name: String) -> Self {
-        FileName { name }
+    ghost use Rattle.std.specs.Prelude.{string_bytes};
+
+    /// A name from its text, which takes no memory.
+    pub fn of(text: String) -> Self
+        ensures { result ≡ string_bytes text }
+    {
+        FileName { text }
+    }
+
+    /// Its text.
+    pub fn as_str(&self) -> &str
+        ensures { result.now ≡ self.now }
+    {
+        self.text.as_str()
     }
 }
 
 impl fmt::Display for FileName {
     fn fmt<W: fmt::Write>(&self, f: &mut fmt::Formatter<W>) -> fmt::Result {
-        write!(f, "{}", self.name)
+        write!(f, "{}", self.as_str())
     }
 }
 
 /// How the program ended.
-#[derive(Debug, PartialEq, Eq, Drop)]
+#[derive(Debug, Drop)]
 pub enum Status {
     /// The input was read to its end and all replies were written.
     Done,

@@ -45,101 +45,98 @@ mod tests {
     use smc_outside::{MemSink, MemSource};
     use std::test::Fail;
 
-    // The words of a command line.
-    fn words(alloc: Global, words: &[&str]) -> Result<Vec<String>, Fail> {
+    // What `top` says at these words over this text, where these reads and writes fail and the output has so much room:
+    // the line of its status, and what was written.
+    fn run(
+        alloc: Global,
+        words: &[&str],
+        text: &str,
+        reads: &[u64],
+        writes: &[u64],
+        space: usize,
+    ) -> Result<(String, Vec<u8>), Fail> {
         let mut list = Vec::new(alloc);
         for word in words {
             list.push(word.to_string(alloc)?)?;
         }
-        Ok(list)
-    }
-
-    fn refused_at(line: u64) -> Status {
-        Status::BadTable { file: None, line }
+        let mut input = MemSource::new(text.as_bytes().to_vec(alloc)?, 9, reads.to_vec(alloc)?);
+        let mut out = MemSink::new(alloc, space, 5, writes.to_vec(alloc)?)?;
+        let status = top(alloc, &list, &mut input, &mut out);
+        Ok((format!(in alloc; "{status}")?, out.bytes().to_vec(alloc)?))
     }
 
     #[test]
     fn tables_are_tallied_or_refused(rt: HostRuntime) -> Result<(), Fail> {
-        let alloc = rt.alloc();
         let cases = [
-            ("", Status::Done, "objects 0, sum 0\n"),
+            ("", "smc: 0 done", "objects 0, sum 0\n"),
             (
                 "0|AFRICA|a|\n4|MIDDLE EAST|b|",
-                Status::Done,
+                "smc: 0 done",
                 "objects 2, sum 4\n",
             ),
             (
                 "0|AFRICA|a|\r\n4|MIDDLE EAST|b|\r\n",
-                Status::Done,
+                "smc: 0 done",
                 "objects 2, sum 4\n",
             ),
-            ("7|A|b|\r", Status::Done, "objects 1, sum 7\n"),
+            ("7|A|b|\r", "smc: 0 done", "objects 1, sum 7\n"),
             (
                 "999999999999|A|b|\n1|A|b|\n",
-                Status::Done,
+                "smc: 0 done",
                 "objects 2, sum 1000000000000\n",
             ),
-            ("0|AFRICA|a", refused_at(1), ""),
-            ("0|AFRICA|a|\n\n", refused_at(2), ""),
-            ("0|A|a|\n1|A|a|\nx|A|a|\n", refused_at(3), ""),
+            ("0|AFRICA|a", "smc: 3 bad table -, line 1", ""),
+            ("0|AFRICA|a|\n\n", "smc: 3 bad table -, line 2", ""),
+            ("0|A|a|\n1|A|a|\nx|A|a|\n", "smc: 3 bad table -, line 3", ""),
         ];
-        for (text, status, written) in cases {
-            let mut input = MemSource::new(text.as_bytes().to_vec(alloc)?, 7, Vec::new(alloc));
-            let mut out = MemSink::new(alloc, 64, 5, Vec::new(alloc))?;
-            let answer = top(
-                alloc,
-                &words(alloc, &["tally", "region"])?,
-                &mut input,
-                &mut out,
-            );
-            assert_eq!(rt; answer, status);
-            assert_eq!(rt; out.bytes(), written.as_bytes());
+        for (case, (text, line, written)) in cases.iter().enumerate() {
+            let (status, held) = run(rt.alloc(), &["tally", "region"], text, &[], &[], 64)?;
+            assert_eq!(rt; status.as_str(), *line, "at {case}");
+            assert_eq!(rt; held.as_slice(), written.as_bytes(), "at {case}");
         }
         Ok(())
     }
 
     #[test]
     fn faults_outside_are_told(rt: HostRuntime) -> Result<(), Fail> {
-        let alloc = rt.alloc();
+        let text = "0|AFRICA|a|\n4|MIDDLE EAST|b|\n";
         // The reads and the writes that fail, the room for output, the status, and what was written.
         let cases = [
-            ([0].as_slice(), [].as_slice(), 64, Status::ReadFault, ""),
-            ([3].as_slice(), [0].as_slice(), 64, Status::ReadFault, ""),
-            ([].as_slice(), [0].as_slice(), 64, Status::WriteFault, ""),
+            ([0].as_slice(), [].as_slice(), 64, "smc: 5 read fault", ""),
+            ([3].as_slice(), [0].as_slice(), 64, "smc: 5 read fault", ""),
+            ([].as_slice(), [0].as_slice(), 64, "smc: 6 write fault", ""),
             (
                 [].as_slice(),
                 [2].as_slice(),
                 64,
-                Status::WriteFault,
+                "smc: 6 write fault",
                 "objects 2,",
             ),
             (
                 [].as_slice(),
                 [].as_slice(),
                 7,
-                Status::WriteFault,
+                "smc: 6 write fault",
                 "objects",
             ),
         ];
-        for (reads, writes, space, status, written) in cases {
-            let text = b"0|AFRICA|a|\n4|MIDDLE EAST|b|\n".to_vec(alloc)?;
-            let mut input = MemSource::new(text, 9, reads.to_vec(alloc)?);
-            let mut out = MemSink::new(alloc, space, 5, writes.to_vec(alloc)?)?;
-            let answer = top(
-                alloc,
-                &words(alloc, &["tally", "region"])?,
-                &mut input,
-                &mut out,
-            );
-            assert_eq!(rt; answer, status);
-            assert_eq!(rt; out.bytes(), written.as_bytes());
+        for (case, (reads, writes, space, line, written)) in cases.iter().enumerate() {
+            let (status, held) = run(
+                rt.alloc(),
+                &["tally", "region"],
+                text,
+                reads,
+                writes,
+                *space,
+            )?;
+            assert_eq!(rt; status.as_str(), *line, "at {case}");
+            assert_eq!(rt; held.as_slice(), written.as_bytes(), "at {case}");
         }
         Ok(())
     }
 
     #[test]
     fn other_words_are_bad(rt: HostRuntime) -> Result<(), Fail> {
-        let alloc = rt.alloc();
         let cases = [
             [].as_slice(),
             &["tally"],
@@ -149,11 +146,10 @@ mod tests {
             &["--", "tally", "region"],
             &["help"],
         ];
-        for (case, list) in cases.iter().enumerate() {
-            let mut input = MemSource::new(Vec::new(alloc), 1, [0].to_vec(alloc)?);
-            let mut out = MemSink::new(alloc, 0, 1, [0].to_vec(alloc)?)?;
-            let answer = top(alloc, &words(alloc, list)?, &mut input, &mut out);
-            assert_eq!(rt; answer, Status::BadWords, "at {case}");
+        for (case, words) in cases.iter().enumerate() {
+            let (status, held) = run(rt.alloc(), words, "", &[0], &[0], 0)?;
+            assert_eq!(rt; status.as_str(), "smc: 1 bad words", "at {case}");
+            assert!(rt; held.is_empty());
         }
         Ok(())
     }
