@@ -1,0 +1,10 @@
+mod BackLaws
+mod BlankLaws
+mod CalendarLaws
+mod ColumnLaws
+mod DayLaws
+mod KeyLaws
+mod RecordLaws
+mod RowLaws
+mod TextLaws
+mod ValueLaws

@@ -1,0 +1,13 @@
+pub mod Calendar
+pub mod Columns
+pub mod Days
+pub mod Faults
+pub mod Keys
+pub mod Numbers
+pub mod Records
+pub mod References
+pub mod Rows
+pub mod Schemas
+pub mod Tables
+pub mod Texts
+pub mod Written
