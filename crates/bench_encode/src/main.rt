@@ -3,7 +3,7 @@
 //! TURNS is the only word of the command line. It stands on `smc_types`, and nothing stands on it.
 #![tactic(auto)]
 
-ghost use Rattle.std.specs.Prelude.{◌≡◌, length, All, IfOk};
+ghost use Rattle.std.specs.Prelude.{◌≡◌, ◌<◌, length, All, IfOk};
 ghost use Rattle.smc_types.specs.Columns.{reference_count};
 ghost use Rattle.smc_types.specs.References.{IsReference};
 
@@ -69,6 +69,7 @@ impl Draws {
     /// The next number, below `below`.
     fn next(&mut self, below: u32) -> u32
         requires { 0 < below }
+        ensures { result < below }
     {
         self.x = self.x.wrapping_mul(1_103_515_245).wrapping_add(12_345) % 0x8000_0000;
         self.x / 65_536 % below
