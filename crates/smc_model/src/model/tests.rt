@@ -38,70 +38,30 @@ fn an_object_is_added_once(rt: HostRuntime) -> Result<(), NoMemory> {
     Ok(())
 }
 
+fn looks(number: Number, here: bool) -> Event {
+    Event::Look { number, here }
+}
+
+fn removes(number: Number, first: bool) -> Event {
+    Event::Remove { number, first }
+}
+
 #[test]
 fn an_object_is_here_until_it_is_removed(rt: HostRuntime) -> Result<(), NoMemory> {
     let mut model = Model::new(rt.alloc());
     let number = numbered(3);
     let steps = [
-        (Event::Look { number, here: true }, Reply::Unfit),
-        (
-            Event::Look {
-                number,
-                here: false,
-            },
-            Reply::Fits,
-        ),
-        (
-            Event::Remove {
-                number,
-                first: false,
-            },
-            Reply::Unfit,
-        ),
+        (looks(number, true), Reply::Unfit),
+        (looks(number, false), Reply::Fits),
+        (removes(number, false), Reply::Unfit),
         (adds(rt.alloc(), number, &[5])?, Reply::Fits),
-        (
-            Event::Look {
-                number,
-                here: false,
-            },
-            Reply::Unfit,
-        ),
-        (Event::Look { number, here: true }, Reply::Fits),
-        (
-            Event::Remove {
-                number,
-                first: false,
-            },
-            Reply::Unfit,
-        ),
-        (
-            Event::Remove {
-                number,
-                first: true,
-            },
-            Reply::Fits,
-        ),
-        (
-            Event::Remove {
-                number,
-                first: true,
-            },
-            Reply::Unfit,
-        ),
-        (
-            Event::Remove {
-                number,
-                first: false,
-            },
-            Reply::Fits,
-        ),
-        (
-            Event::Look {
-                number,
-                here: false,
-            },
-            Reply::Fits,
-        ),
+        (looks(number, false), Reply::Unfit),
+        (looks(number, true), Reply::Fits),
+        (removes(number, false), Reply::Unfit),
+        (removes(number, true), Reply::Fits),
+        (removes(number, true), Reply::Unfit),
+        (removes(number, false), Reply::Fits),
+        (looks(number, false), Reply::Fits),
         (adds(rt.alloc(), number, &[5])?, Reply::Unfit),
     ];
     for (event, reply) in &steps {
