@@ -25,10 +25,10 @@ use Rattle.smc_rules.specs.Mirror.{MirrorsAt, IsMirrored}
 use Rattle.smc_rules.proofs.PlaceLaws.{same_place-refl, same_place-eq, in_range-has, has-in_range}
 use Rattle.smc_rules.proofs.ReadBack.{unpacked-packed}
 
-same_word-eq : (v w : Word) → same_word v w ≡ true → v ≡ w
+pub same_word-eq : (v w : Word) → same_word v w ≡ true → v ≡ w
 same_word-eq v w t = grind (arith, nat_tests)
 
-same_word-refl : (v : Word) → same_word v v ≡ true
+pub same_word-refl : (v : Word) → same_word v v ≡ true
 same_word-refl v = grind (arith, nat_tests)
 
 -- two words that suit a place and have one number are one
@@ -89,7 +89,7 @@ both true u v = cc
 both false u v = cc
 
 -- an operation leaves the words of other places
-apply-other : (op : Op) (memory : Memory) (there : Place) → same_place there (place_of op) ≡ false → apply op memory there ≡ memory there
+pub apply-other : (op : Op) (memory : Memory) (there : Place) → same_place there (place_of op) ≡ false → apply op memory there ≡ memory there
 apply-other (Load here) memory there e = refl
 apply-other (Store here w) memory there e = rw e refl
 apply-other (Exchange here expect w) memory there e = rw e refl
