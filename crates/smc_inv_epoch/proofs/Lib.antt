@@ -1,0 +1,6 @@
+pub mod Moves
+pub mod Quiet
+pub mod Owed
+pub mod Offers
+pub mod EachKind
+pub mod EveryList

@@ -1,0 +1,149 @@
+-- What is offered: where an offer stands behind a test, and which words the steps of a call are on.
+use Rattle.std.proofs.Common.{◌≡◌, ◌≢◌, ℕ, ◌+◌, ◌<◌, ◌≤◌, ◌==◌, ◌||◌, Bool, true, false, Option, Some, None, List, length, refl, sym, ap, ◌∙◌, subst, arith}
+use Rattle.std.specs.Prelude.{IsTrue, IfSome, nat_lt, if◌then◌else◌}
+use Rattle.std.proofs.lemmas.Bool.Decides.{nat_tests}
+use Rattle.std.proofs.lemmas.Bool.{eqb-true, eqb-false, ltb-true}
+use Rattle.smc_words.specs.declared.number.Number.{Number}
+use Rattle.smc_shape.specs.Layout.{Layout, IsShape, slots_of}
+use Rattle.smc_shape.specs.Places.{InRange}
+use Rattle.smc_shape.specs.declared.place.Place.{Place}
+use Rattle.smc_shape.specs.declared.place.Place.TheVariants as place
+use Rattle.smc_core.specs.declared.call.Call.{Call}
+use Rattle.smc_core.specs.declared.call.Call.TheVariants as call
+use Rattle.smc_core.specs.declared.call.Choice.{Choice}
+use Rattle.smc_core.specs.declared.call.Choice.TheVariants.{Start, Go}
+use Rattle.smc_core.specs.declared.change.Change.{Change}
+use Rattle.smc_core.specs.declared.done.Done.TheVariants as done
+use Rattle.smc_core.specs.declared.local.Held.{Held}
+use Rattle.smc_core.specs.declared.local.Owned.{Owned}
+use Rattle.smc_core.specs.declared.local.Scan.{Scan}
+use Rattle.smc_core.specs.declared.local.Stand.{Stand}
+use Rattle.smc_core.specs.declared.op.Offer.{Offer}
+use Rattle.smc_core.specs.declared.op.Op.{Op}
+use Rattle.smc_core.specs.declared.op.Op.TheVariants.{Load, Store, Exchange, MarkGone}
+use Rattle.smc_core.specs.declared.phase.Phase.{Phase}
+use Rattle.smc_core.specs.declared.phase.Phase.TheVariants as phase
+use Rattle.smc_core.specs.declared.phase.moves.BeginPhase.{BeginPhase}
+use Rattle.smc_core.specs.declared.phase.moves.BeginPhase.TheVariants as begin
+use Rattle.smc_core.specs.declared.phase.moves.CancelPhase.{CancelPhase}
+use Rattle.smc_core.specs.declared.phase.moves.CancelPhase.TheVariants as cancel
+use Rattle.smc_core.specs.declared.phase.moves.CountPhase.{CountPhase}
+use Rattle.smc_core.specs.declared.phase.moves.CountPhase.TheVariants as walk
+use Rattle.smc_core.specs.declared.phase.moves.FinishPhase.{FinishPhase}
+use Rattle.smc_core.specs.declared.phase.moves.FinishPhase.TheVariants as finish
+use Rattle.smc_core.specs.declared.phase.objects.AddPhase.{AddPhase}
+use Rattle.smc_core.specs.declared.phase.objects.LookPhase.{LookPhase}
+use Rattle.smc_core.specs.declared.phase.objects.RemovePhase.{RemovePhase}
+use Rattle.smc_core.specs.declared.phase.objects.ScanPhase.{ScanPhase}
+use Rattle.smc_core.specs.declared.phase.objects.ScanPhase.TheVariants as scan
+use Rattle.smc_core.specs.declared.section.Section.{Section}
+use Rattle.smc_core.specs.declared.section.Section.TheVariants.{Outside, Loaded, Announced, Again, Lasting, Inside}
+use Rattle.smc_core.specs.declared.section.TheConstants.{FIRST_EPOCH, LAST_EPOCH}
+use Rattle.smc_core.specs.declared.word.Word.{Word}
+use Rattle.smc_core.specs.declared.word.Word.TheVariants as word
+use Rattle.smc_core.specs.Add.{add_offer}
+use Rattle.smc_core.specs.Begin.{begin_offer}
+use Rattle.smc_core.specs.Cancel.{cancel_offer}
+use Rattle.smc_core.specs.Change.{change, advance_next, section_seen, ready_seen}
+use Rattle.smc_core.specs.Count.{count_offer}
+use Rattle.smc_core.specs.Finish.{finish_offer, finish_start}
+use Rattle.smc_core.specs.Local.{section_after}
+use Rattle.smc_core.specs.Look.{look_offer}
+use Rattle.smc_core.specs.Offer.{offer, go_offer, start_offer, when_idle, when_inside, when_outside, when_held, when_begun, when_owned, look_start}
+use Rattle.smc_core.specs.Remove.{remove_offer}
+use Rattle.smc_core.specs.Row.{OpFits, place_of}
+use Rattle.smc_core.specs.Scan.{scan_offer, next_offer}
+use Rattle.smc_core.specs.Section.{calm_by, epoch_of, is_calm}
+use Rattle.smc_core.specs.Step.{when, goes, ends}
+use Rattle.smc_core.specs.Words.{plain_of, round_of, same_word}
+use Rattle.smc_rules.specs.EpochAgreement.{word_of_section}
+use Rattle.smc_rules.specs.EpochRule.{epoch_of_region, announced_by, own_epoch, advance_from, has_loaded}
+use Rattle.smc_rules.specs.Memory.{Memory, apply, seen}
+use Rattle.smc_rules.specs.State.{State}
+use Rattle.smc_rules.proofs.CarryLaws.{by_pass}
+use Rattle.smc_inv_epoch.specs.Epochs.{Epochs, is_first}
+use Rattle.smc_inv_epoch.proofs.Moves.{SectionFits, AdvanceFits, PassedFits, Moves, section_fits, advance_fits}
+use Rattle.smc_inv_epoch.proofs.Owed.{outside_fits, loaded_fits, announced_fits, again_fits, lasting_fits, inside_fits, word_own, section_moves, advance_moves, quiet_moves, next_moves, stored_words, stored_own}
+use Rattle.smc_inv_epoch.proofs.Quiet as Q
+
+-- where an offer stands behind a test, what is to be known of it is to be known where the test holds
+module _ (P : Offer → Type 0) where
+  pub if_idle : (call : Phase) (o : Option Offer) → (call ≡ phase.Idle → IfSome o P) → IfSome (when_idle call o) P
+  if_idle phase.Idle o k = k refl
+  if_idle _ o k = tt
+
+  pub if_outside : (section : Section) (o : Option Offer) → (section ≡ Outside → IfSome o P) → IfSome (when_outside section o) P
+  if_outside Outside o k = k refl
+  if_outside _ o k = tt
+
+  pub if_inside : (section : Section) (o : Option Offer) → ((own : ℕ) (calm : Bool) → section ≡ Inside own calm → IfSome o P) → IfSome (when_inside section o) P
+  if_inside (Inside own calm) o k = k own calm refl
+  if_inside _ o k = tt
+
+  pub if_test : (b : Bool) (o : Offer) → (b ≡ true → P o) → IfSome (when b o) P
+  if_test true o k = k refl
+  if_test false o k = tt
+
+  pub if_held : (held : Option ℕ) (o : ℕ → Option Offer) → ((slot : ℕ) → IfSome (o slot) P) → IfSome (when_held held o) P
+  if_held None o k = tt
+  if_held (Some slot) o k = k slot
+
+  pub if_begun : (begun : Option Scan) (o : Scan → Offer) → ((one : Scan) → P (o one)) → IfSome (when_begun begun o) P
+  if_begun None o k = tt
+  if_begun (Some one) o k = k one
+
+  pub if_owned : (owned : Option Owned) (o : Owned → Offer) → ((one : Owned) → P (o one)) → IfSome (when_owned owned o) P
+  if_owned None o k = tt
+  if_owned (Some one) o k = k one
+
+-- steps that are on no place of the epoch, the round or a section
+pub look-far : (next : LookPhase) → is_first (place_of (look_offer next).op) ≡ false
+look-far next = grind arith
+
+pub add-far : (words : List ℕ) (next : AddPhase) → is_first (place_of (add_offer words next).op) ≡ false
+add-far words next = grind arith
+
+pub remove-far : (epoch : ℕ) (next : RemovePhase) → is_first (place_of (remove_offer epoch next).op) ≡ false
+remove-far epoch next = grind arith
+
+pub count-far : (next : CountPhase) → is_first (place_of (count_offer next).op) ≡ false
+count-far next = grind arith
+
+pub far-leaves : (op : Op) → is_first (place_of op) ≡ false → IsTrue (Q.leaves op)
+far-leaves op e = grind arith
+
+pub scan-leaves : (pass : ℕ) (next : ScanPhase) → IsTrue (Q.leaves (scan_offer pass next).op)
+scan-leaves pass next = grind arith
+
+pub begin-leaves : (epoch : ℕ) (next : BeginPhase) → IsTrue (Q.leaves (begin_offer epoch next).op)
+begin-leaves epoch next = grind arith
+
+pub finish-leaves : (epoch : ℕ) (next : FinishPhase) → IsTrue (Q.leaves (finish_offer epoch next).op)
+finish-leaves epoch next = grind arith
+
+pub cancel-leaves : (epoch : ℕ) (next : CancelPhase) → IsTrue (Q.leaves (cancel_offer epoch next).op)
+cancel-leaves epoch next = grind arith
+
+module _ (shape : Layout) where
+  -- the operation fits where it is on such a place
+  abbrev pub Fits : Offer → Type 0
+  Fits o = IsTrue (is_first (place_of o.op)) → OpFits shape o.op
+
+  pub scan-fits : (pass : ℕ) → pass < shape.passes → (next : ScanPhase) → Fits (scan_offer pass next)
+  scan-fits pass within (scan.End number) u = within
+  scan-fits pass within (scan.Directory number coll slot) u = cc
+  scan-fits pass within (scan.Back number coll slot) u = cc
+
+  pub begin-fits : (epoch : ℕ) (next : BeginPhase) → Fits (begin_offer epoch next)
+  begin-fits epoch (begin.Nothing coll) u = (tt, tt)
+  begin-fits epoch (begin.Count next) u = let far = count-far next in cc
+  begin-fits epoch _ u = cc
+
+  pub finish-fits : (epoch : ℕ) (next : FinishPhase) → Fits (finish_offer epoch next)
+  finish-fits epoch (finish.End targets) u = (tt, tt)
+  finish-fits epoch (finish.Move targets number source next) u = grind (arith, u)
+  finish-fits epoch _ u = cc
+
+  pub cancel-fits : (epoch : ℕ) (next : CancelPhase) → Fits (cancel_offer epoch next)
+  cancel-fits epoch cancel.End u = (tt, tt)
+  cancel-fits epoch _ u = cc

@@ -1,0 +1,34 @@
+-- What each step keeps, and what it comes to.
+use Rattle.std.specs.Prelude.{◌≡◌, ℕ, Bool, true, false, IsTrue, List}
+use Rattle.smc_shape.specs.Layout.{Layout, IsShape}
+use Rattle.smc_shape.specs.declared.place.Place.{Place}
+use Rattle.smc_shape.specs.declared.place.Place.TheVariants as place
+use Rattle.smc_core.specs.declared.local.Local.{Local}
+use Rattle.smc_core.specs.declared.local.Opening.{Opening}
+use Rattle.smc_core.specs.Machine.{IsOpening, IsOpened, Reach}
+use Rattle.smc_rules.specs.EpochAgreement.{EpochAgreement}
+use Rattle.smc_rules.specs.EpochRule.{EpochRule}
+use Rattle.smc_rules.specs.State.{State, IsKept, Backed}
+
+-- the places of the epoch, the round and the section words
+abbrev pub is_first : Place → Bool
+is_first place.Epoch = true
+is_first place.Round = true
+is_first (place.Section pass) = true
+is_first _ = false
+
+-- the epoch rule, with what it needs to be kept
+pub record Epochs (shape : Layout) (state : State) : Type 0 where
+  pub rule : EpochRule shape state
+  pub agrees : EpochAgreement shape state
+
+-- each step of each kind keeps it, whatever an entry, a directory word, an owner, a target or a field says
+abbrev pub EpochsAreKept : Type 0
+EpochsAreKept = (shape : Layout) → IsShape shape → IsKept shape is_first (Epochs shape)
+
+-- behind every row and all local states that steps lead to from a region without objects stands a state that has the
+-- epoch rule; the row mirrors its epoch, its round and its section words
+abbrev pub EpochRuleHolds : Type 0
+EpochRuleHolds = (shape : Layout) (opening : Opening) (start row : List ℕ) (locals : List Local)
+    → IsShape shape → IsOpening opening → IsOpened shape opening start → Reach shape start row locals
+    → Backed shape is_first (EpochRule shape) row locals
