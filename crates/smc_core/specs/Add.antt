@@ -1,5 +1,5 @@
 -- Add: a slot and an entry are claimed, the words are stored, and the object takes effect at the live entry.
-use Rattle.std.specs.Prelude.{ℕ, ◌+◌, ◌==◌, ◌&&◌, nat_lt, not, Bool, Some, List, length, slice_index, if◌then◌else◌}
+use Rattle.std.specs.Prelude.{ℕ, ◌+◌, ◌==◌, ◌&&◌, nat_lt, Bool, Some, List, length, slice_index, if◌then◌else◌}
 use Rattle.std.specs.List.{list_all}
 use Rattle.smc_words.specs.declared.layout.TheConstants.{BLANK}
 use Rattle.smc_words.specs.declared.dir.Dir.{Dir}
@@ -25,9 +25,13 @@ use Rattle.smc_core.specs.Ripe.{is_ripe_slot, is_ripe_entry, next_round}
 use Rattle.smc_core.specs.Step.{step, goes, tells}
 use Rattle.smc_core.specs.Words.{dir_of, state_of, same_word}
 
--- no word of the record is blank
+-- a word may stand in a field of an object: it is a word, and not the blank one, which is the largest
+abbrev pub is_value : ℕ → Bool
+is_value w = nat_lt w BLANK
+
+-- so is each word of the record
 abbrev pub has_no_blank : List ℕ → Bool
-has_no_blank words = list_all (λ w. not (w == BLANK)) words
+has_no_blank words = list_all is_value words
 
 -- whether the collection takes such words, sought from this index on
 abbrev pub takes : Layout → ℕ → ℕ → List ℕ → Bool

@@ -1,6 +1,5 @@
 -- The one step that a pass offers for a choice.
-use Rattle.std.specs.Prelude.{ℕ, ◌+◌, ◌==◌, ◌&&◌, nat_lt, not, Option, Some, None, List, [], ◌∷◌, length, if◌then◌else◌}
-use Rattle.smc_words.specs.declared.layout.TheConstants.{BLANK}
+use Rattle.std.specs.Prelude.{ℕ, ◌+◌, ◌==◌, ◌&&◌, nat_lt, Option, Some, None, List, [], ◌∷◌, length, if◌then◌else◌}
 use Rattle.smc_words.specs.declared.number.Number.{Number}
 use Rattle.smc_shape.specs.Layout.{Layout, width_of}
 use Rattle.smc_shape.specs.declared.place.Place.TheVariants as place
@@ -23,7 +22,7 @@ use Rattle.smc_core.specs.declared.phase.objects.Seeker.TheVariants as seeker
 use Rattle.smc_core.specs.declared.section.Section.{Section}
 use Rattle.smc_core.specs.declared.section.Section.TheVariants.{Outside, Inside}
 use Rattle.smc_core.specs.declared.word.Word.TheVariants as word
-use Rattle.smc_core.specs.Add.{takes, add_offer}
+use Rattle.smc_core.specs.Add.{is_value, takes, add_offer}
 use Rattle.smc_core.specs.Begin.{round_offer, begin_offer}
 use Rattle.smc_core.specs.Cancel.{cancel_offer}
 use Rattle.smc_core.specs.Count.{count_offer, no_count}
@@ -98,7 +97,7 @@ start_offer shape pass stand section call.Advance = when_outside section (Some (
 start_offer shape pass stand section (call.Add coll from words) = when_inside section (when (takes shape coll from words) (step 10 (Load (place.Directory coll from))))
 start_offer shape pass stand section (call.Look number) = when_inside section (Some (look_start shape pass number))
 start_offer shape pass stand section (call.Read number field) = when_inside section (when_held (held_slot stand.held number) (λ slot. when (nat_lt field (width_of shape number.coll)) (step 19 (Load (place.Field number.coll slot field)))))
-start_offer shape pass stand section (call.Write number field value) = when_inside section (when_held (held_slot stand.held number) (λ slot. when (nat_lt field (width_of shape number.coll) && not (value == BLANK)) (step 20 (Store (place.Field number.coll slot field) (word.Plain value)))))
+start_offer shape pass stand section (call.Write number field value) = when_inside section (when_held (held_slot stand.held number) (λ slot. when (nat_lt field (width_of shape number.coll) && is_value value) (step 20 (Store (place.Field number.coll slot field) (word.Plain value)))))
 start_offer shape pass stand section (call.Remove number) = when_inside section (when_held (held_slot stand.held number) (λ slot. Some (step 21 (MarkGone number.coll number.entry))))
 start_offer shape pass stand section (call.Scan coll) = when_inside section (when (nat_lt coll (length shape.colls)) (step 8 (Load (place.Section pass))))
 start_offer shape pass stand section (call.Next scan) = when_inside section (when_begun (scan_of stand.scans scan) (λ begun. next_offer shape pass begun))
