@@ -1,6 +1,6 @@
 -- The epoch rule holds after every list of steps.
-use Rattle.std.proofs.Common.{◌≡◌, ℕ, ◌<◌, Option, Some, None, List, refl, subst, arith}
-use Rattle.std.specs.Prelude.{IsTrue, IfSome}
+use Rattle.std.proofs.Common.{◌≡◌, ℕ, ◌<◌, Bool, true, Option, Some, None, List, refl, subst, arith}
+use Rattle.std.specs.Prelude.{IsTrue, IfSome, IsSomeAnd, is_some}
 use Rattle.smc_shape.specs.Layout.{Layout, IsShape}
 use Rattle.smc_shape.specs.declared.place.Place.{Place}
 use Rattle.smc_shape.specs.declared.place.Place.TheVariants as place
@@ -8,15 +8,17 @@ use Rattle.smc_core.specs.declared.call.Choice.{Choice}
 use Rattle.smc_core.specs.declared.local.Local.{Local}
 use Rattle.smc_core.specs.declared.local.Opening.{Opening}
 use Rattle.smc_core.specs.declared.op.Offer.{Offer}
-use Rattle.smc_core.specs.Machine.{IsOpening, IsOpened, Reach, first_word}
+use Rattle.smc_core.specs.Machine.{Machine, IsOpening, IsOpened, Reach, first_word}
+use Rattle.smc_core.specs.Played.{Schedule, shape_of, opening_row, played}
 use Rattle.smc_core.specs.Row.{Suits}
 use Rattle.smc_rules.specs.EpochRule.{EpochRule}
 use Rattle.smc_rules.specs.Memory.{apply}
-use Rattle.smc_rules.specs.State.{State, IsKept, Backed, stand_offer, stand_then, first_state}
+use Rattle.smc_rules.specs.State.{State, IsKept, Backed, stand_offer, stand_then, state_after, first_state}
 use Rattle.smc_rules.proofs.CarryLaws.{carried}
-use Rattle.smc_inv_epoch.specs.Epochs.{Epochs, is_first}
+use Rattle.smc_inv_epoch.specs.Epochs.{Epochs, is_first, opening_of, HoldsAfter}
 use Rattle.smc_inv_epoch.proofs.EachKind.{Pays, pays}
 use Rattle.smc_inv_epoch.proofs.Moves.{kept}
+use Rattle.smc_inv_epoch.proofs.Openings.{schedule-opened}
 
 module _ (shape : Layout) (valid : IsShape shape) where
   -- what an offered step pays
@@ -32,6 +34,7 @@ module _ (shape : Layout) (valid : IsShape shape) where
     fits = λ state pass choice offered within h offers u. (paid state pass choice offered within h offers).fits u;
     kept = λ state pass choice offered told w within h offers is.
         kept shape state pass h within (apply offered.op state.memory) (stand_then shape pass (state.stands pass) choice told w)
+        (state_after shape state pass choice told offered.op w).world
         ((paid state pass choice offered within h offers).moves told w is);
   }
 
@@ -74,3 +77,12 @@ module _ (shape : Layout) (valid : IsShape shape) where
   rule-reached opening start row locals o opened reached =
       let b = epochs-reached opening start row locals o opened reached in
       record { state = b.state; backs = b.backs; rule = b.rule.rule }
+
+-- a schedule that can be played leads to where the rule holds
+pub rule-played : ((s : Schedule) (m : Machine) → played s ≡ Some m → Reach (shape_of s) (opening_row s) m.row m.locals)
+    → (s : Schedule) → IsShape (shape_of s) → IsOpening (opening_of s) → is_some (played s) ≡ true → HoldsAfter s
+rule-played reached s valid o some = go (played s) refl some
+  where
+    go : (m : Option Machine) → played s ≡ m → is_some m ≡ true → IsSomeAnd m (λ k. Backed (shape_of s) is_first (EpochRule (shape_of s)) k.row k.locals)
+    go None e some = cc
+    go (Some m) e some = rule-reached (shape_of s) valid (opening_of s) (opening_row s) m.row m.locals o (schedule-opened s) (reached s m e)

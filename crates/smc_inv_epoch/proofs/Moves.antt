@@ -3,6 +3,7 @@ use Rattle.std.proofs.Common.{◌≡◌, ◌≢◌, ℕ, ◌+◌, ◌<◌, ◌�
 use Rattle.std.specs.Prelude.{IsTrue}
 use Rattle.std.proofs.lemmas.Option.{none-some}
 use Rattle.smc_shape.specs.Layout.{Layout}
+use Rattle.smc_model.specs.World.{World}
 use Rattle.smc_core.specs.declared.call.Choice.{Choice}
 use Rattle.smc_core.specs.declared.local.Stand.{Stand}
 use Rattle.smc_core.specs.declared.op.Op.{Op}
@@ -15,8 +16,9 @@ use Rattle.smc_core.specs.declared.word.Word.{Word}
 use Rattle.smc_core.specs.Change.{change}
 use Rattle.smc_core.specs.Local.{section_after}
 use Rattle.smc_rules.specs.EpochAgreement.{EpochAgreement, word_of_section}
-use Rattle.smc_rules.specs.EpochRule.{EpochRule, epoch_of_region, announced_by, first_load, own_epoch, advance_from, has_loaded}
+use Rattle.smc_rules.specs.EpochRule.{EpochRule, first_load, own_epoch, advance_from, has_loaded}
 use Rattle.smc_rules.specs.Memory.{Memory, apply}
+use Rattle.smc_rules.specs.Reads.{epoch_of_region, announced_by}
 use Rattle.smc_rules.specs.State.{State, put_stand, stand_then, state_after}
 use Rattle.smc_rules.proofs.CarryLaws.{by_pass, put_stand-same, put_stand-other}
 use Rattle.smc_inv_epoch.specs.Epochs.{Epochs}
@@ -73,9 +75,9 @@ module _ (shape : Layout) (state : State) (pass : ℕ) (h : Epochs shape state) 
     next = λ from other is. h.agrees.next_pass pass from other within is;
   }
 
-  module _ (memory : Memory) (stand : Stand) (m : Moves shape state pass memory stand.section stand.phase) where
+  module _ (memory : Memory) (stand : Stand) (world : World) (m : Moves shape state pass memory stand.section stand.phase) where
     abbrev moved : State
-    moved = record { memory = memory; stands = put_stand state.stands pass stand }
+    moved = record { memory = memory; stands = put_stand state.stands pass stand; world = world }
 
     here : (i : ℕ) → i ≡ pass → moved.stands i ≡ stand
     here i e = put_stand-same state.stands pass i stand e

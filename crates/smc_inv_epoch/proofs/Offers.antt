@@ -57,8 +57,9 @@ use Rattle.smc_core.specs.Section.{calm_by, epoch_of, is_calm}
 use Rattle.smc_core.specs.Step.{when, goes, ends}
 use Rattle.smc_core.specs.Words.{plain_of, round_of, same_word}
 use Rattle.smc_rules.specs.EpochAgreement.{word_of_section}
-use Rattle.smc_rules.specs.EpochRule.{epoch_of_region, announced_by, own_epoch, advance_from, has_loaded}
+use Rattle.smc_rules.specs.EpochRule.{own_epoch, advance_from, has_loaded}
 use Rattle.smc_rules.specs.Memory.{Memory, apply, seen}
+use Rattle.smc_rules.specs.Reads.{epoch_of_region, announced_by}
 use Rattle.smc_rules.specs.State.{State}
 use Rattle.smc_rules.proofs.CarryLaws.{by_pass}
 use Rattle.smc_inv_epoch.specs.Epochs.{Epochs, is_first}

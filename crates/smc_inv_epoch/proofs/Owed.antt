@@ -14,8 +14,9 @@ use Rattle.smc_core.specs.declared.word.Word.TheVariants as word
 use Rattle.smc_core.specs.Change.{advance_next}
 use Rattle.smc_core.specs.Words.{plain_of}
 use Rattle.smc_rules.specs.EpochAgreement.{word_of_section}
-use Rattle.smc_rules.specs.EpochRule.{epoch_of_region, announced_by, first_load, own_epoch, advance_from, has_loaded}
+use Rattle.smc_rules.specs.EpochRule.{first_load, own_epoch, advance_from, has_loaded}
 use Rattle.smc_rules.specs.Memory.{Memory, apply, put_word}
+use Rattle.smc_rules.specs.Reads.{epoch_of_region, announced_by}
 use Rattle.smc_rules.specs.State.{State}
 use Rattle.smc_inv_epoch.specs.Epochs.{Epochs}
 use Rattle.smc_inv_epoch.proofs.Moves.{SectionFits, AdvanceFits, PassedFits, Moves, section_fits}

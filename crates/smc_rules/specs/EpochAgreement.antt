@@ -7,7 +7,8 @@ use Rattle.smc_core.specs.declared.phase.Phase.TheVariants as phase
 use Rattle.smc_core.specs.declared.section.Section.{Section}
 use Rattle.smc_core.specs.declared.section.Section.TheVariants.{Outside, Loaded, Announced, Again, Lasting, Inside}
 use Rattle.smc_core.specs.declared.section.TheConstants.{FIRST_EPOCH, LAST_EPOCH}
-use Rattle.smc_rules.specs.EpochRule.{announced_by, first_load, own_epoch, advance_from}
+use Rattle.smc_rules.specs.EpochRule.{first_load, own_epoch, advance_from}
+use Rattle.smc_rules.specs.Reads.{announced_by}
 use Rattle.smc_rules.specs.State.{State}
 
 -- what the section word says of a section: the first epoch from its first store to its second, then the section's own
