@@ -15,6 +15,7 @@ use Rattle.smc_rules.specs.EpochRule.{EpochRule}
 use Rattle.smc_rules.specs.Memory.{apply}
 use Rattle.smc_rules.specs.State.{State, IsKept, Backed, stand_offer, stand_then, state_after, first_state}
 use Rattle.smc_rules.proofs.CarryLaws.{carried}
+use Rattle.smc_rules.proofs.FirstState.{epoch-first, epoch_agreement-first}
 use Rattle.smc_inv_epoch.specs.Epochs.{Epochs, is_first, opening_of, HoldsAfter}
 use Rattle.smc_inv_epoch.proofs.EachKind.{Pays, pays}
 use Rattle.smc_inv_epoch.proofs.Moves.{kept}
@@ -40,24 +41,7 @@ module _ (shape : Layout) (valid : IsShape shape) where
 
   -- at first no pass is in a section, and none advances
   epochs-first : (opening : Opening) → IsOpening opening → Epochs shape (first_state shape opening)
-  epochs-first opening o = record {
-    rule = record {
-      first = o.first;
-      last = o.last;
-      advance = λ pass from within is. cc;
-      loaded = λ pass seen within is. cc;
-      again = λ pass seen own within is. cc;
-      near = λ pass own within is. cc;
-      passed = λ pass own other from lp lo is at loaded. cc;
-    };
-    agrees = record {
-      own_word = λ pass within. refl;
-      least_load = λ pass seen within is. cc;
-      least_own = λ pass own within is. cc;
-      low_advance = λ pass from within is. cc;
-      next_pass = λ pass from other within is. cc;
-    };
-  }
+  epochs-first opening o = record { rule = epoch-first shape opening o; agrees = epoch_agreement-first shape opening o }
 
   first-suits : (opening : Opening) → IsOpening opening → (there : Place) → IsTrue (is_first there) → Suits there (first_word opening there)
   first-suits opening o place.Epoch u = let last = o.last in omega arith

@@ -2,3 +2,4 @@ pub mod PlaceLaws
 pub mod ReadBack
 pub mod MirrorLaws
 pub mod CarryLaws
+pub mod FirstState
