@@ -17,8 +17,9 @@ use Rattle.smc_rules.specs.State.{State, IsKept, Backed, stand_offer, stand_then
 use Rattle.smc_rules.proofs.CarryLaws.{carried}
 use Rattle.smc_rules.proofs.FirstState.{epoch-first, epoch_agreement-first}
 use Rattle.smc_inv_epoch.specs.Epochs.{Epochs, is_first, opening_of, HoldsAfter}
-use Rattle.smc_inv_epoch.proofs.EachKind.{Pays, pays}
+use Rattle.smc_inv_epoch.proofs.EachKind.{pays}
 use Rattle.smc_inv_epoch.proofs.Moves.{kept}
+use Rattle.smc_inv_epoch.proofs.Pays.{Pays}
 use Rattle.smc_inv_epoch.proofs.Openings.{schedule-opened}
 
 module _ (shape : Layout) (valid : IsShape shape) where
