@@ -1,75 +1,36 @@
 -- The steps of an advance pay what they owe.
-use Rattle.std.proofs.Common.{◌≡◌, ◌≢◌, ℕ, ◌+◌, ◌<◌, ◌≤◌, ◌==◌, ◌||◌, ◌&&◌, Bool, true, false, not, Option, Some, None, List, length, refl, sym, ap, ◌∙◌, subst, arith}
-use Rattle.std.specs.Prelude.{IsTrue, IfSome, nat_lt, if◌then◌else◌}
+use Rattle.std.proofs.Common.{◌≡◌, ◌≢◌, ℕ, ◌+◌, ◌<◌, ◌≤◌, ◌==◌, ◌||◌, Bool, true, false, Some, None, refl, sym, ap, ◌∙◌, arith}
+use Rattle.std.specs.Prelude.{IfSome, if◌then◌else◌}
 use Rattle.std.proofs.lemmas.Bool.Decides.{nat_tests}
-use Rattle.std.proofs.lemmas.Bool.{eqb-true, eqb-false, ltb-true, lt-ltb}
-use Rattle.smc_words.specs.declared.layout.TheConstants.{BLANK}
-use Rattle.smc_words.specs.declared.number.Number.{Number}
-use Rattle.smc_shape.specs.Layout.{Layout, IsShape, width_of}
-use Rattle.smc_shape.specs.Places.{InRange}
-use Rattle.smc_shape.specs.declared.place.Place.{Place}
+use Rattle.std.proofs.lemmas.Bool.{eqb-false, lt-ltb}
+use Rattle.smc_shape.specs.Layout.{Layout, IsShape}
 use Rattle.smc_shape.specs.declared.place.Place.TheVariants as place
-use Rattle.smc_core.specs.declared.call.Call.{Call}
 use Rattle.smc_core.specs.declared.call.Call.TheVariants as call
-use Rattle.smc_core.specs.declared.call.Choice.{Choice}
 use Rattle.smc_core.specs.declared.call.Choice.TheVariants.{Start, Go}
-use Rattle.smc_core.specs.declared.change.Change.{Change}
 use Rattle.smc_core.specs.declared.done.Done.TheVariants as done
-use Rattle.smc_core.specs.declared.local.Held.{Held}
-use Rattle.smc_core.specs.declared.local.Owned.{Owned}
-use Rattle.smc_core.specs.declared.local.Scan.{Scan}
 use Rattle.smc_core.specs.declared.local.Stand.{Stand}
-use Rattle.smc_core.specs.declared.op.Offer.{Offer}
-use Rattle.smc_core.specs.declared.op.Op.{Op}
-use Rattle.smc_core.specs.declared.op.Op.TheVariants.{Load, Store, Exchange, MarkGone}
+use Rattle.smc_core.specs.declared.op.Op.TheVariants.{Load, Exchange}
 use Rattle.smc_core.specs.declared.phase.Phase.{Phase}
 use Rattle.smc_core.specs.declared.phase.Phase.TheVariants as phase
-use Rattle.smc_core.specs.declared.phase.moves.BeginPhase.{BeginPhase}
-use Rattle.smc_core.specs.declared.phase.moves.BeginPhase.TheVariants as begin
-use Rattle.smc_core.specs.declared.phase.moves.CancelPhase.{CancelPhase}
-use Rattle.smc_core.specs.declared.phase.moves.CancelPhase.TheVariants as cancel
-use Rattle.smc_core.specs.declared.phase.moves.CountPhase.{CountPhase}
-use Rattle.smc_core.specs.declared.phase.moves.CountPhase.TheVariants as walk
-use Rattle.smc_core.specs.declared.phase.moves.FinishPhase.{FinishPhase}
-use Rattle.smc_core.specs.declared.phase.moves.FinishPhase.TheVariants as finish
-use Rattle.smc_core.specs.declared.phase.objects.AddPhase.{AddPhase}
-use Rattle.smc_core.specs.declared.phase.objects.LookPhase.{LookPhase}
-use Rattle.smc_core.specs.declared.phase.objects.RemovePhase.{RemovePhase}
-use Rattle.smc_core.specs.declared.phase.objects.ScanPhase.{ScanPhase}
-use Rattle.smc_core.specs.declared.phase.objects.ScanPhase.TheVariants as scan
 use Rattle.smc_core.specs.declared.section.Section.{Section}
-use Rattle.smc_core.specs.declared.section.Section.TheVariants.{Outside, Loaded, Announced, Again, Lasting, Inside}
-use Rattle.smc_core.specs.declared.section.TheConstants.{FIRST_EPOCH, LAST_EPOCH}
+use Rattle.smc_core.specs.declared.section.TheConstants.{LAST_EPOCH}
 use Rattle.smc_core.specs.declared.word.Word.{Word}
 use Rattle.smc_core.specs.declared.word.Word.TheVariants as word
-use Rattle.smc_core.specs.Add.{add_offer, takes}
-use Rattle.smc_core.specs.Begin.{begin_offer, round_offer}
-use Rattle.smc_core.specs.Cancel.{cancel_offer}
-use Rattle.smc_core.specs.Change.{change, advance_next, section_seen, ready_seen}
-use Rattle.smc_core.specs.Count.{count_offer, counting, no_count}
-use Rattle.smc_core.specs.Finish.{finish_offer, finish_start, is_early}
-use Rattle.smc_core.specs.Local.{section_after}
-use Rattle.smc_core.specs.Look.{look_offer}
-use Rattle.smc_core.specs.Offer.{offer, go_offer, start_offer, when_idle, when_inside, when_outside, when_held, when_begun, when_owned, look_start, held_slot}
-use Rattle.smc_core.specs.Remove.{remove_offer}
-use Rattle.smc_core.specs.Row.{OpFits, place_of, has_place}
-use Rattle.smc_core.specs.Scan.{scan_offer, scan_of, next_offer, is_over}
-use Rattle.smc_core.specs.Section.{calm_by, epoch_of, is_calm}
-use Rattle.smc_core.specs.Step.{step, when, goes, ends}
-use Rattle.smc_core.specs.Words.{plain_of, round_of, dir_of, state_of, same_word}
-use Rattle.smc_rules.specs.EpochAgreement.{word_of_section}
+use Rattle.smc_core.specs.Change.{advance_next, ready_seen}
+use Rattle.smc_core.specs.Offer.{go_offer, start_offer}
+use Rattle.smc_core.specs.Step.{goes, ends}
+use Rattle.smc_core.specs.Words.{plain_of, same_word}
 use Rattle.smc_rules.specs.EpochRule.{own_epoch, advance_from, has_loaded}
-use Rattle.smc_rules.specs.Memory.{Memory, apply, seen}
+use Rattle.smc_rules.specs.Memory.{Memory, apply}
 use Rattle.smc_rules.specs.Reads.{epoch_of_region, announced_by}
 use Rattle.smc_rules.specs.State.{State}
 use Rattle.smc_rules.proofs.CarryLaws.{by_pass}
 use Rattle.smc_rules.proofs.MirrorLaws.{same_word-eq}
-use Rattle.smc_inv_epoch.specs.Epochs.{Epochs, is_first}
-use Rattle.smc_inv_epoch.proofs.Moves.{SectionFits, AdvanceFits, PassedFits, Moves, section_fits, advance_fits}
-use Rattle.smc_inv_epoch.proofs.Owed.{outside_fits, loaded_fits, announced_fits, again_fits, lasting_fits, inside_fits, word_own, section_moves, advance_moves, quiet_moves, next_moves, stored_words, stored_own, calm_advance, calm_passed}
-use Rattle.smc_inv_epoch.proofs.Quiet as Q
-use Rattle.smc_inv_epoch.proofs.Offers.{if_idle, if_outside, if_inside, if_test, if_held, if_begun, if_owned, look-far, add-far, remove-far, count-far, far-leaves, scan-leaves, begin-leaves, finish-leaves, cancel-leaves, Fits, scan-fits, begin-fits, finish-fits, cancel-fits}
-use Rattle.smc_inv_epoch.proofs.Pays.{Pays, own_fits, quiet, far, Bears, own_load, look_start-bears, next_offer-bears, finish_start-bears, round-fits}
+use Rattle.smc_inv_epoch.specs.Epochs.{Epochs}
+use Rattle.smc_inv_epoch.proofs.Moves.{Moves, section_fits}
+use Rattle.smc_inv_epoch.proofs.Owed.{word_own, advance_moves, quiet_moves, next_moves, calm_advance, calm_passed}
+use Rattle.smc_inv_epoch.proofs.Offers.{if_outside}
+use Rattle.smc_inv_epoch.proofs.Pays.{Pays}
 
 module _ (shape : Layout) (state : State) (pass : ℕ) (h : Epochs shape state) (within : pass < shape.passes) (valid : IsShape shape) where
   abbrev memory : Memory
@@ -103,10 +64,10 @@ module _ (shape : Layout) (state : State) (pass : ℕ) (h : Epochs shape state) 
           → (i own : ℕ) → i < shape.passes → own_epoch (state.stands i).section ≡ Some own → i < other + 1 → from ≤ own
       passed w is test i own lt own_is below = by_pass i other
           (λ e. let says : plain_of w ≡ announced_by memory i = ap plain_of is ∙ ap (announced_by memory) (sym e) in
-              let known = word_own epoch (announced_by memory i) own (state.stands i).section (section_fits shape state i h lt) own_is in
-              grind (arith, nat_tests, says, known.0, known.1, test))
+          let known = word_own epoch (announced_by memory i) own (state.stands i).section (section_fits shape state i h lt) own_is in
+          grind (arith, nat_tests, says, known.0, known.1, test))
           (λ ne. let earlier : i < other = omega (arith, below, ne) in
-              h.rule.passed i own pass from lt within own_is (ap advance_from at_phase) (ap (λ p. has_loaded p i) at_phase ∙ lt-ltb i other earlier))
+          h.rule.passed i own pass from lt within own_is (ap advance_from at_phase) (ap (λ p. has_loaded p i) at_phase ∙ lt-ltb i other earlier))
 
       by_word : (w : Word) → w ≡ memory (place.Section other) → (b : Bool) → (plain_of w == 0 || plain_of w == from) ≡ b
           → Moves shape state pass memory section (if b then goes (advance_next shape from (other + 1)) else ends (done.NotYet other (plain_of w))).phase

@@ -1,75 +1,36 @@
 -- Each step of each kind pays what it owes to the epoch rule.
-use Rattle.std.proofs.Common.{◌≡◌, ◌≢◌, ℕ, ◌+◌, ◌<◌, ◌≤◌, ◌==◌, ◌||◌, ◌&&◌, Bool, true, false, not, Option, Some, None, List, length, refl, sym, ap, ◌∙◌, subst, arith}
-use Rattle.std.specs.Prelude.{IsTrue, IfSome, nat_lt, if◌then◌else◌}
-use Rattle.std.proofs.lemmas.Bool.Decides.{nat_tests}
-use Rattle.std.proofs.lemmas.Bool.{eqb-true, eqb-false, ltb-true, lt-ltb}
+use Rattle.std.proofs.Common.{◌≡◌, ℕ, ◌<◌, ◌==◌, ◌&&◌, not, length, refl, sym, subst}
+use Rattle.std.specs.Prelude.{IfSome, nat_lt}
+use Rattle.std.proofs.lemmas.Bool.{ltb-true}
 use Rattle.smc_words.specs.declared.layout.TheConstants.{BLANK}
-use Rattle.smc_words.specs.declared.number.Number.{Number}
 use Rattle.smc_shape.specs.Layout.{Layout, IsShape, width_of}
-use Rattle.smc_shape.specs.Places.{InRange}
-use Rattle.smc_shape.specs.declared.place.Place.{Place}
-use Rattle.smc_shape.specs.declared.place.Place.TheVariants as place
 use Rattle.smc_core.specs.declared.call.Call.{Call}
 use Rattle.smc_core.specs.declared.call.Call.TheVariants as call
 use Rattle.smc_core.specs.declared.call.Choice.{Choice}
 use Rattle.smc_core.specs.declared.call.Choice.TheVariants.{Start, Go}
-use Rattle.smc_core.specs.declared.change.Change.{Change}
-use Rattle.smc_core.specs.declared.done.Done.TheVariants as done
-use Rattle.smc_core.specs.declared.local.Held.{Held}
-use Rattle.smc_core.specs.declared.local.Owned.{Owned}
-use Rattle.smc_core.specs.declared.local.Scan.{Scan}
 use Rattle.smc_core.specs.declared.local.Stand.{Stand}
-use Rattle.smc_core.specs.declared.op.Offer.{Offer}
-use Rattle.smc_core.specs.declared.op.Op.{Op}
-use Rattle.smc_core.specs.declared.op.Op.TheVariants.{Load, Store, Exchange, MarkGone}
 use Rattle.smc_core.specs.declared.phase.Phase.{Phase}
 use Rattle.smc_core.specs.declared.phase.Phase.TheVariants as phase
-use Rattle.smc_core.specs.declared.phase.moves.BeginPhase.{BeginPhase}
-use Rattle.smc_core.specs.declared.phase.moves.BeginPhase.TheVariants as begin
-use Rattle.smc_core.specs.declared.phase.moves.CancelPhase.{CancelPhase}
-use Rattle.smc_core.specs.declared.phase.moves.CancelPhase.TheVariants as cancel
-use Rattle.smc_core.specs.declared.phase.moves.CountPhase.{CountPhase}
 use Rattle.smc_core.specs.declared.phase.moves.CountPhase.TheVariants as walk
-use Rattle.smc_core.specs.declared.phase.moves.FinishPhase.{FinishPhase}
-use Rattle.smc_core.specs.declared.phase.moves.FinishPhase.TheVariants as finish
-use Rattle.smc_core.specs.declared.phase.objects.AddPhase.{AddPhase}
-use Rattle.smc_core.specs.declared.phase.objects.LookPhase.{LookPhase}
-use Rattle.smc_core.specs.declared.phase.objects.RemovePhase.{RemovePhase}
-use Rattle.smc_core.specs.declared.phase.objects.ScanPhase.{ScanPhase}
-use Rattle.smc_core.specs.declared.phase.objects.ScanPhase.TheVariants as scan
 use Rattle.smc_core.specs.declared.section.Section.{Section}
-use Rattle.smc_core.specs.declared.section.Section.TheVariants.{Outside, Loaded, Announced, Again, Lasting, Inside}
-use Rattle.smc_core.specs.declared.section.TheConstants.{FIRST_EPOCH, LAST_EPOCH}
-use Rattle.smc_core.specs.declared.word.Word.{Word}
-use Rattle.smc_core.specs.declared.word.Word.TheVariants as word
 use Rattle.smc_core.specs.Add.{add_offer, takes}
-use Rattle.smc_core.specs.Begin.{begin_offer, round_offer}
+use Rattle.smc_core.specs.Begin.{begin_offer}
 use Rattle.smc_core.specs.Cancel.{cancel_offer}
-use Rattle.smc_core.specs.Change.{change, advance_next, section_seen, ready_seen}
 use Rattle.smc_core.specs.Count.{count_offer, counting, no_count}
-use Rattle.smc_core.specs.Finish.{finish_offer, finish_start, is_early}
-use Rattle.smc_core.specs.Local.{section_after}
+use Rattle.smc_core.specs.Finish.{finish_offer}
 use Rattle.smc_core.specs.Look.{look_offer}
-use Rattle.smc_core.specs.Offer.{offer, go_offer, start_offer, when_idle, when_inside, when_outside, when_held, when_begun, when_owned, look_start, held_slot}
+use Rattle.smc_core.specs.Offer.{offer, go_offer, start_offer, held_slot}
 use Rattle.smc_core.specs.Remove.{remove_offer}
-use Rattle.smc_core.specs.Row.{OpFits, place_of, has_place}
-use Rattle.smc_core.specs.Scan.{scan_offer, scan_of, next_offer, is_over}
-use Rattle.smc_core.specs.Section.{calm_by, epoch_of, is_calm}
-use Rattle.smc_core.specs.Step.{step, when, goes, ends}
-use Rattle.smc_core.specs.Words.{plain_of, round_of, dir_of, state_of, same_word}
-use Rattle.smc_rules.specs.EpochAgreement.{word_of_section}
-use Rattle.smc_rules.specs.EpochRule.{own_epoch, advance_from, has_loaded}
-use Rattle.smc_rules.specs.Memory.{Memory, apply, seen}
-use Rattle.smc_rules.specs.Reads.{epoch_of_region, announced_by}
+use Rattle.smc_core.specs.Scan.{scan_offer, scan_of}
+use Rattle.smc_core.specs.Section.{epoch_of, is_calm}
+use Rattle.smc_core.specs.Words.{round_of, dir_of, state_of}
+use Rattle.smc_rules.specs.Memory.{Memory}
+use Rattle.smc_rules.specs.Reads.{epoch_of_region}
 use Rattle.smc_rules.specs.State.{State}
-use Rattle.smc_rules.proofs.CarryLaws.{by_pass}
-use Rattle.smc_rules.proofs.MirrorLaws.{same_word-eq}
-use Rattle.smc_inv_epoch.specs.Epochs.{Epochs, is_first}
-use Rattle.smc_inv_epoch.proofs.Moves.{SectionFits, AdvanceFits, PassedFits, Moves, section_fits, advance_fits}
-use Rattle.smc_inv_epoch.proofs.Owed.{outside_fits, loaded_fits, announced_fits, again_fits, lasting_fits, inside_fits, word_own, section_moves, advance_moves, quiet_moves, next_moves, stored_words, stored_own, calm_advance, calm_passed}
+use Rattle.smc_inv_epoch.specs.Epochs.{Epochs}
 use Rattle.smc_inv_epoch.proofs.Quiet as Q
-use Rattle.smc_inv_epoch.proofs.Offers.{if_idle, if_outside, if_inside, if_test, if_held, if_begun, if_owned, look-far, add-far, remove-far, count-far, far-leaves, scan-leaves, begin-leaves, finish-leaves, cancel-leaves, Fits, scan-fits, begin-fits, finish-fits, cancel-fits}
-use Rattle.smc_inv_epoch.proofs.Pays.{Pays, own_fits, quiet, far, Bears, own_load, look_start-bears, next_offer-bears, finish_start-bears, round-fits}
+use Rattle.smc_inv_epoch.proofs.Offers.{if_idle, if_outside, if_inside, if_test, if_held, if_begun, if_owned, look-far, add-far, remove-far, count-far, scan-leaves, begin-leaves, finish-leaves, cancel-leaves, scan-fits, begin-fits, finish-fits, cancel-fits}
+use Rattle.smc_inv_epoch.proofs.Pays.{Pays, quiet, far, own_load, look_start-bears, next_offer-bears, finish_start-bears, round-fits}
 use Rattle.smc_inv_epoch.proofs.Enters.{entering, begins_enter, begins_leave}
 use Rattle.smc_inv_epoch.proofs.Advances.{advancing, ready, begins_advance}
 

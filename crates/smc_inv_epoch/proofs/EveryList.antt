@@ -1,5 +1,5 @@
 -- The epoch rule holds after every list of steps.
-use Rattle.std.proofs.Common.{◌≡◌, ℕ, ◌<◌, Bool, true, Option, Some, None, List, refl, subst, arith}
+use Rattle.std.proofs.Common.{◌≡◌, ℕ, ◌<◌, true, Option, Some, None, List, refl, subst, arith}
 use Rattle.std.specs.Prelude.{IsTrue, IfSome, IsSomeAnd, is_some}
 use Rattle.smc_shape.specs.Layout.{Layout, IsShape}
 use Rattle.smc_shape.specs.declared.place.Place.{Place}

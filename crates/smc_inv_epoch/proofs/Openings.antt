@@ -1,10 +1,10 @@
 -- The row with which a schedule opens is that of a region without objects.
-use Rattle.std.proofs.Common.{◌≡◌, ℕ, zero, suc, ◌+◌, ◌*◌, ◌<◌, Some, None, List, [], ◌∷◌, ◌++◌, length, refl, sym, ap, ◌∙◌, subst, arith}
+use Rattle.std.proofs.Common.{◌≡◌, ℕ, zero, suc, ◌+◌, ◌*◌, ◌<◌, List, ◌∷◌, ◌++◌, length, refl, ap, ◌∙◌, arith}
 use Rattle.std.specs.Prelude.{replicate, slice_index}
 use Rattle.std.proofs.lemmas.Grind.{rows}
 use Rattle.std.proofs.lemmas.List.{length-append, length-replicate}
 use Rattle.smc_words.specs.declared.layout.TheConstants.{BLANK}
-use Rattle.smc_shape.specs.Layout.{Layout, words_of}
+use Rattle.smc_shape.specs.Layout.{words_of}
 use Rattle.smc_shape.specs.Places.{InRange, at}
 use Rattle.smc_shape.specs.declared.place.Place.{Place}
 use Rattle.smc_shape.specs.declared.place.Place.TheVariants as place

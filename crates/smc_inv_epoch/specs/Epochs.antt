@@ -1,5 +1,5 @@
 -- What each step keeps, and what it comes to.
-use Rattle.std.specs.Prelude.{◌≡◌, ℕ, Bool, true, false, IsTrue, IsSomeAnd, List}
+use Rattle.std.specs.Prelude.{ℕ, Bool, true, false, IsSomeAnd, List}
 use Rattle.smc_shape.specs.Layout.{Layout, IsShape}
 use Rattle.smc_shape.specs.declared.place.Place.{Place}
 use Rattle.smc_shape.specs.declared.place.Place.TheVariants as place

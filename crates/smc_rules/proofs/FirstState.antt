@@ -1,6 +1,5 @@
 -- The rules hold of a region that begins without objects.
-use Rattle.std.proofs.Common.{◌≡◌, ◌≢◌, ℕ, ◌+◌, ◌<◌, ◌≤◌, Bool, true, false, Option, Some, None, refl, sym, ap, ◌∙◌, subst, arith}
-use Rattle.std.specs.Prelude.{◌↔◌, IsSome, IsTrue}
+use Rattle.std.proofs.Common.{◌≡◌, true, false, Option, None, refl, subst, arith}
 use Rattle.smc_words.specs.declared.number.Number.{Number}
 use Rattle.std.specs.FinMap.{get-empty}
 use Rattle.std.specs.Option.{option_map_or}
@@ -14,7 +13,7 @@ use Rattle.smc_rules.specs.EpochAgreement.{EpochAgreement}
 use Rattle.smc_rules.specs.EpochRule.{EpochRule}
 use Rattle.smc_rules.specs.RelocationRule.{RelocationRule}
 use Rattle.smc_rules.specs.SlotRule.{SlotRule}
-use Rattle.smc_rules.specs.State.{State, first_state}
+use Rattle.smc_rules.specs.State.{first_state}
 
 module _ (shape : Layout) (opening : Opening) (o : IsOpening opening) where
   none : (number : Number) → object_of empty_world number ≡ None

@@ -1,7 +1,6 @@
 -- What a call in progress has to do with slots and entries: what it has claimed, what it owes, what it copies.
-use Rattle.std.specs.Prelude.{ℕ, nat_lt, Bool, true, false, Option, Some, None, if◌then◌else◌}
+use Rattle.std.specs.Prelude.{ℕ, nat_lt, Bool, true, false, Option, Some, None}
 use Rattle.smc_words.specs.declared.number.Number.{Number}
-use Rattle.smc_shape.specs.Layout.{Layout, width_of}
 use Rattle.smc_core.specs.declared.phase.Phase.{Phase}
 use Rattle.smc_core.specs.declared.phase.Phase.TheVariants as phase
 use Rattle.smc_core.specs.declared.phase.moves.BeginPhase.{BeginPhase}
@@ -10,7 +9,6 @@ use Rattle.smc_core.specs.declared.phase.moves.CancelPhase.{CancelPhase}
 use Rattle.smc_core.specs.declared.phase.moves.CancelPhase.TheVariants as cancel
 use Rattle.smc_core.specs.declared.phase.moves.FinishPhase.{FinishPhase}
 use Rattle.smc_core.specs.declared.phase.moves.FinishPhase.TheVariants as finish
-use Rattle.smc_core.specs.declared.phase.moves.Targets.{Targets}
 use Rattle.smc_core.specs.declared.phase.moves.Walk.{Walk}
 use Rattle.smc_core.specs.declared.phase.objects.AddPhase.{AddPhase}
 use Rattle.smc_core.specs.declared.phase.objects.AddPhase.TheVariants as add

@@ -1,5 +1,5 @@
 -- What a memory says, by what its places are for.
-use Rattle.std.specs.Prelude.{◌≡◌, ℕ, ◌<◌, Option, Some, None}
+use Rattle.std.specs.Prelude.{◌≡◌, ℕ, ◌<◌, Option, Some}
 use Rattle.smc_words.specs.declared.dir.Dir.{Dir}
 use Rattle.smc_words.specs.declared.dir.Dir.TheVariants as dir
 use Rattle.smc_words.specs.declared.layout.TheConstants.{BLANK}
@@ -9,7 +9,6 @@ use Rattle.smc_shape.specs.Layout.{Layout, width_of}
 use Rattle.smc_shape.specs.declared.place.Place.TheVariants as place
 use Rattle.smc_model.specs.World.{World, word_of}
 use Rattle.smc_core.specs.declared.word.State.{State}
-use Rattle.smc_core.specs.declared.word.State.TheVariants as state
 use Rattle.smc_core.specs.Words.{plain_of, round_of, state_of, dir_of, back_of, forward_of}
 use Rattle.smc_rules.specs.Memory.{Memory}
 

@@ -1,14 +1,13 @@
 -- The relocation rule: what becomes of objects that a round moves, and of those who read them meanwhile.
 --
 -- The definition alone: that it holds after every list of steps is not yet proved.
-use Rattle.std.specs.Prelude.{◌≡◌, ◌≢◌, ◌⊎◌, ℕ, ◌+◌, ◌<◌, ◌≤◌, ⊤, Bool, true, IsTrue, IsFalse, Option, Some, None, Contains}
+use Rattle.std.specs.Prelude.{◌≡◌, ◌≢◌, ◌⊎◌, ℕ, ◌+◌, ◌<◌, ◌≤◌, ⊤, true, IsTrue, IsFalse, Option, Some, None, Contains}
 use Rattle.smc_words.specs.declared.dir.Dir.{Dir}
 use Rattle.smc_words.specs.declared.dir.Dir.TheVariants as dir
 use Rattle.smc_words.specs.declared.layout.TheConstants.{BLANK}
 use Rattle.smc_words.specs.declared.number.Number.{Number}
 use Rattle.smc_words.specs.declared.round.RoundWord.{RoundWord}
 use Rattle.smc_shape.specs.Layout.{Layout, slots_of, entries_of, width_of}
-use Rattle.smc_model.specs.World.{World}
 use Rattle.smc_core.specs.declared.local.Owned.{Owned}
 use Rattle.smc_core.specs.declared.local.Scan.{Scan}
 use Rattle.smc_core.specs.declared.local.Stand.{Stand}
@@ -21,8 +20,7 @@ use Rattle.smc_core.specs.declared.word.State.TheVariants as state
 use Rattle.smc_core.specs.Offer.{held_slot}
 use Rattle.smc_core.specs.Section.{epoch_of}
 use Rattle.smc_core.specs.Words.{has_object_at}
-use Rattle.smc_rules.specs.Calls.{Slot, Copying, is_counting, has_passed, locked_target, is_finish, finish_owes, copying_of, loaded_target, copied, loaded_field}
-use Rattle.smc_rules.specs.Memory.{Memory}
+use Rattle.smc_rules.specs.Calls.{Copying, is_counting, has_passed, locked_target, is_finish, copying_of, loaded_target, copied, loaded_field}
 use Rattle.smc_rules.specs.Reads.{round_in, state_in, state_for, dir_in, back_in, forward_in, field_in, object, IsIncoming, IsOwnedBy, HasRecord, IsBlankBelow}
 use Rattle.smc_rules.specs.State as S
 
@@ -116,7 +114,7 @@ pub record IsLockedMove (shape : Layout) (s : S.State) (number : Number) (slot :
   pub source : HasRecord shape s.world s.memory slot number
   pub target : (field : ℕ) → field < width_of shape number.coll
       → let target : ℕ = forward_in s.memory number.coll slot in
-        (field_in s.memory number.coll target field ≡ BLANK) ⊎ (field_in s.memory number.coll target field ≡ field_in s.memory number.coll slot field)
+      (field_in s.memory number.coll target field ≡ BLANK) ⊎ (field_in s.memory number.coll target field ≡ field_in s.memory number.coll slot field)
 
 -- an object is locked by a finish that is late enough, no section holds it, and what is copied of it is its record
 abbrev pub LockedMove : Layout → S.State → Type 0

@@ -1,8 +1,7 @@
 -- The slot rule: who owns each slot and entry, and which objects are where.
 --
 -- The definition alone: that it holds after every list of steps is not yet proved.
-use Rattle.std.specs.Prelude.{◌≡◌, ◌↔◌, ◌⊎◌, ℕ, ◌+◌, ◌<◌, ◌≤◌, ⊤, IsTrue, IsSome, Option, Some, None, List, slice_index}
-use Rattle.smc_words.specs.declared.dir.Dir.{Dir}
+use Rattle.std.specs.Prelude.{◌≡◌, ◌↔◌, ◌⊎◌, ℕ, ◌+◌, ◌<◌, ◌≤◌, ⊤, IsTrue, IsSome, Some, None, List, slice_index}
 use Rattle.smc_words.specs.declared.dir.Dir.TheVariants as dir
 use Rattle.smc_words.specs.declared.number.Number.{Number}
 use Rattle.smc_shape.specs.Layout.{Layout, slots_of, entries_of, width_of}

@@ -1,13 +1,10 @@
-use Rattle.std.proofs.Common.{◌≡◌, Bool, true, None, [], ◌∷◌, refl, arith}
+use Rattle.std.proofs.Common.{◌≡◌, true, [], ◌∷◌, refl, arith}
 use Rattle.std.specs.Prelude.{is_some}
-use Rattle.smc_shape.specs.Faults.{fault_of}
 use Rattle.smc_shape.specs.Layout.{IsShape, words_of}
 use Rattle.smc_shape.specs.Places.{at}
 use Rattle.smc_shape.proofs.AskedLaws.{no-fault_of}
-use Rattle.smc_core.specs.Machine.{IsOpening}
-use Rattle.smc_core.specs.Played.{Schedule, shape_of, played}
+use Rattle.smc_core.specs.Played.{shape_of, played}
 use Rattle.smc_core.specs.Schedules.{announces_twice, helped}
-use Rattle.smc_inv_epoch.specs.Epochs.{opening_of}
 use Rattle.smc_inv_epoch.proofs.EveryList.{rule-played}
 use Rattle.smc_inv_epoch.proofs.laws.epoch_rule_holds_after_worked_schedules.Goals as goal
 
