@@ -1,6 +1,6 @@
 -- The epoch rule holds after every list of steps.
-use Rattle.std.proofs.Common.{◌≡◌, ℕ, ◌<◌, Option, Some, None, List, refl, subst, arith}
-use Rattle.std.specs.Prelude.{IsTrue, IfSome}
+use Rattle.std.proofs.Common.{◌≡◌, ℕ, ◌<◌, true, Option, Some, None, List, refl, subst, arith}
+use Rattle.std.specs.Prelude.{IsTrue, IfSome, IsSomeAnd, is_some}
 use Rattle.smc_shape.specs.Layout.{Layout, IsShape}
 use Rattle.smc_shape.specs.declared.place.Place.{Place}
 use Rattle.smc_shape.specs.declared.place.Place.TheVariants as place
@@ -8,15 +8,19 @@ use Rattle.smc_core.specs.declared.call.Choice.{Choice}
 use Rattle.smc_core.specs.declared.local.Local.{Local}
 use Rattle.smc_core.specs.declared.local.Opening.{Opening}
 use Rattle.smc_core.specs.declared.op.Offer.{Offer}
-use Rattle.smc_core.specs.Machine.{IsOpening, IsOpened, Reach, first_word}
+use Rattle.smc_core.specs.Machine.{Machine, IsOpening, IsOpened, Reach, first_word}
+use Rattle.smc_core.specs.Played.{Schedule, shape_of, opening_row, played}
 use Rattle.smc_core.specs.Row.{Suits}
 use Rattle.smc_rules.specs.EpochRule.{EpochRule}
 use Rattle.smc_rules.specs.Memory.{apply}
-use Rattle.smc_rules.specs.State.{State, IsKept, Backed, stand_offer, stand_then, first_state}
+use Rattle.smc_rules.specs.State.{State, IsKept, Backed, stand_offer, stand_then, state_after, first_state}
 use Rattle.smc_rules.proofs.CarryLaws.{carried}
-use Rattle.smc_inv_epoch.specs.Epochs.{Epochs, is_first}
-use Rattle.smc_inv_epoch.proofs.EachKind.{Pays, pays}
+use Rattle.smc_rules.proofs.FirstState.{epoch-first, epoch_agreement-first}
+use Rattle.smc_inv_epoch.specs.Epochs.{Epochs, is_first, opening_of, HoldsAfter}
+use Rattle.smc_inv_epoch.proofs.EachKind.{pays}
 use Rattle.smc_inv_epoch.proofs.Moves.{kept}
+use Rattle.smc_inv_epoch.proofs.Pays.{Pays}
+use Rattle.smc_inv_epoch.proofs.Openings.{schedule-opened}
 
 module _ (shape : Layout) (valid : IsShape shape) where
   -- what an offered step pays
@@ -32,29 +36,13 @@ module _ (shape : Layout) (valid : IsShape shape) where
     fits = λ state pass choice offered within h offers u. (paid state pass choice offered within h offers).fits u;
     kept = λ state pass choice offered told w within h offers is.
         kept shape state pass h within (apply offered.op state.memory) (stand_then shape pass (state.stands pass) choice told w)
+        (state_after shape state pass choice told offered.op w).world
         ((paid state pass choice offered within h offers).moves told w is);
   }
 
   -- at first no pass is in a section, and none advances
   epochs-first : (opening : Opening) → IsOpening opening → Epochs shape (first_state shape opening)
-  epochs-first opening o = record {
-    rule = record {
-      first = o.first;
-      last = o.last;
-      advance = λ pass from within is. cc;
-      loaded = λ pass seen within is. cc;
-      again = λ pass seen own within is. cc;
-      near = λ pass own within is. cc;
-      passed = λ pass own other from lp lo is at loaded. cc;
-    };
-    agrees = record {
-      own_word = λ pass within. refl;
-      least_load = λ pass seen within is. cc;
-      least_own = λ pass own within is. cc;
-      low_advance = λ pass from within is. cc;
-      next_pass = λ pass from other within is. cc;
-    };
-  }
+  epochs-first opening o = record { rule = epoch-first shape opening o; agrees = epoch_agreement-first shape opening o }
 
   first-suits : (opening : Opening) → IsOpening opening → (there : Place) → IsTrue (is_first there) → Suits there (first_word opening there)
   first-suits opening o place.Epoch u = let last = o.last in omega arith
@@ -74,3 +62,12 @@ module _ (shape : Layout) (valid : IsShape shape) where
   rule-reached opening start row locals o opened reached =
       let b = epochs-reached opening start row locals o opened reached in
       record { state = b.state; backs = b.backs; rule = b.rule.rule }
+
+-- a schedule that can be played leads to where the rule holds
+pub rule-played : ((s : Schedule) (m : Machine) → played s ≡ Some m → Reach (shape_of s) (opening_row s) m.row m.locals)
+    → (s : Schedule) → IsShape (shape_of s) → IsOpening (opening_of s) → is_some (played s) ≡ true → HoldsAfter s
+rule-played reached s valid o some = go (played s) refl some
+  where
+    go : (m : Option Machine) → played s ≡ m → is_some m ≡ true → IsSomeAnd m (λ k. Backed (shape_of s) is_first (EpochRule (shape_of s)) k.row k.locals)
+    go None e some = cc
+    go (Some m) e some = rule-reached (shape_of s) valid (opening_of s) (opening_row s) m.row m.locals o (schedule-opened s) (reached s m e)

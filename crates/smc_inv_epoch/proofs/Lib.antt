@@ -2,5 +2,9 @@ pub mod Moves
 pub mod Quiet
 pub mod Owed
 pub mod Offers
+pub mod Pays
+pub mod Enters
+pub mod Advances
 pub mod EachKind
+pub mod Openings
 pub mod EveryList

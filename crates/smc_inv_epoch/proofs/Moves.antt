@@ -1,23 +1,19 @@
 -- What one step owes to the epoch rule, and that the rule is kept where it is paid.
-use Rattle.std.proofs.Common.{◌≡◌, ◌≢◌, ℕ, ◌+◌, ◌<◌, ◌≤◌, Bool, true, false, Option, Some, None, refl, sym, ap, ◌∙◌, subst, arith}
+use Rattle.std.proofs.Common.{◌≡◌, ◌≢◌, ℕ, ◌+◌, ◌<◌, ◌≤◌, Some, sym, ◌∙◌, subst, arith}
 use Rattle.std.specs.Prelude.{IsTrue}
-use Rattle.std.proofs.lemmas.Option.{none-some}
 use Rattle.smc_shape.specs.Layout.{Layout}
-use Rattle.smc_core.specs.declared.call.Choice.{Choice}
+use Rattle.smc_model.specs.World.{World}
 use Rattle.smc_core.specs.declared.local.Stand.{Stand}
-use Rattle.smc_core.specs.declared.op.Op.{Op}
 use Rattle.smc_core.specs.declared.phase.Phase.{Phase}
 use Rattle.smc_core.specs.declared.phase.Phase.TheVariants as phase
 use Rattle.smc_core.specs.declared.section.Section.{Section}
-use Rattle.smc_core.specs.declared.section.Section.TheVariants.{Outside, Loaded, Announced, Again, Lasting, Inside}
+use Rattle.smc_core.specs.declared.section.Section.TheVariants.{Again}
 use Rattle.smc_core.specs.declared.section.TheConstants.{FIRST_EPOCH, LAST_EPOCH}
-use Rattle.smc_core.specs.declared.word.Word.{Word}
-use Rattle.smc_core.specs.Change.{change}
-use Rattle.smc_core.specs.Local.{section_after}
-use Rattle.smc_rules.specs.EpochAgreement.{EpochAgreement, word_of_section}
-use Rattle.smc_rules.specs.EpochRule.{EpochRule, epoch_of_region, announced_by, first_load, own_epoch, advance_from, has_loaded}
-use Rattle.smc_rules.specs.Memory.{Memory, apply}
-use Rattle.smc_rules.specs.State.{State, put_stand, stand_then, state_after}
+use Rattle.smc_rules.specs.EpochAgreement.{word_of_section}
+use Rattle.smc_rules.specs.EpochRule.{first_load, own_epoch, advance_from, has_loaded}
+use Rattle.smc_rules.specs.Memory.{Memory}
+use Rattle.smc_rules.specs.Reads.{epoch_of_region, announced_by}
+use Rattle.smc_rules.specs.State.{State, put_stand}
 use Rattle.smc_rules.proofs.CarryLaws.{by_pass, put_stand-same, put_stand-other}
 use Rattle.smc_inv_epoch.specs.Epochs.{Epochs}
 
@@ -73,9 +69,9 @@ module _ (shape : Layout) (state : State) (pass : ℕ) (h : Epochs shape state) 
     next = λ from other is. h.agrees.next_pass pass from other within is;
   }
 
-  module _ (memory : Memory) (stand : Stand) (m : Moves shape state pass memory stand.section stand.phase) where
+  module _ (memory : Memory) (stand : Stand) (world : World) (m : Moves shape state pass memory stand.section stand.phase) where
     abbrev moved : State
-    moved = record { memory = memory; stands = put_stand state.stands pass stand }
+    moved = record { memory = memory; stands = put_stand state.stands pass stand; world = world }
 
     here : (i : ℕ) → i ≡ pass → moved.stands i ≡ stand
     here i e = put_stand-same state.stands pass i stand e

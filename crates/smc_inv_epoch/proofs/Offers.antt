@@ -1,26 +1,11 @@
 -- What is offered: where an offer stands behind a test, and which words the steps of a call are on.
-use Rattle.std.proofs.Common.{◌≡◌, ◌≢◌, ℕ, ◌+◌, ◌<◌, ◌≤◌, ◌==◌, ◌||◌, Bool, true, false, Option, Some, None, List, length, refl, sym, ap, ◌∙◌, subst, arith}
-use Rattle.std.specs.Prelude.{IsTrue, IfSome, nat_lt, if◌then◌else◌}
-use Rattle.std.proofs.lemmas.Bool.Decides.{nat_tests}
-use Rattle.std.proofs.lemmas.Bool.{eqb-true, eqb-false, ltb-true}
-use Rattle.smc_words.specs.declared.number.Number.{Number}
-use Rattle.smc_shape.specs.Layout.{Layout, IsShape, slots_of}
-use Rattle.smc_shape.specs.Places.{InRange}
-use Rattle.smc_shape.specs.declared.place.Place.{Place}
-use Rattle.smc_shape.specs.declared.place.Place.TheVariants as place
-use Rattle.smc_core.specs.declared.call.Call.{Call}
-use Rattle.smc_core.specs.declared.call.Call.TheVariants as call
-use Rattle.smc_core.specs.declared.call.Choice.{Choice}
-use Rattle.smc_core.specs.declared.call.Choice.TheVariants.{Start, Go}
-use Rattle.smc_core.specs.declared.change.Change.{Change}
-use Rattle.smc_core.specs.declared.done.Done.TheVariants as done
-use Rattle.smc_core.specs.declared.local.Held.{Held}
+use Rattle.std.proofs.Common.{◌≡◌, ℕ, ◌<◌, Bool, true, false, Option, Some, None, List, refl, arith}
+use Rattle.std.specs.Prelude.{IsTrue, IfSome}
+use Rattle.smc_shape.specs.Layout.{Layout}
 use Rattle.smc_core.specs.declared.local.Owned.{Owned}
 use Rattle.smc_core.specs.declared.local.Scan.{Scan}
-use Rattle.smc_core.specs.declared.local.Stand.{Stand}
 use Rattle.smc_core.specs.declared.op.Offer.{Offer}
 use Rattle.smc_core.specs.declared.op.Op.{Op}
-use Rattle.smc_core.specs.declared.op.Op.TheVariants.{Load, Store, Exchange, MarkGone}
 use Rattle.smc_core.specs.declared.phase.Phase.{Phase}
 use Rattle.smc_core.specs.declared.phase.Phase.TheVariants as phase
 use Rattle.smc_core.specs.declared.phase.moves.BeginPhase.{BeginPhase}
@@ -28,7 +13,6 @@ use Rattle.smc_core.specs.declared.phase.moves.BeginPhase.TheVariants as begin
 use Rattle.smc_core.specs.declared.phase.moves.CancelPhase.{CancelPhase}
 use Rattle.smc_core.specs.declared.phase.moves.CancelPhase.TheVariants as cancel
 use Rattle.smc_core.specs.declared.phase.moves.CountPhase.{CountPhase}
-use Rattle.smc_core.specs.declared.phase.moves.CountPhase.TheVariants as walk
 use Rattle.smc_core.specs.declared.phase.moves.FinishPhase.{FinishPhase}
 use Rattle.smc_core.specs.declared.phase.moves.FinishPhase.TheVariants as finish
 use Rattle.smc_core.specs.declared.phase.objects.AddPhase.{AddPhase}
@@ -37,33 +21,19 @@ use Rattle.smc_core.specs.declared.phase.objects.RemovePhase.{RemovePhase}
 use Rattle.smc_core.specs.declared.phase.objects.ScanPhase.{ScanPhase}
 use Rattle.smc_core.specs.declared.phase.objects.ScanPhase.TheVariants as scan
 use Rattle.smc_core.specs.declared.section.Section.{Section}
-use Rattle.smc_core.specs.declared.section.Section.TheVariants.{Outside, Loaded, Announced, Again, Lasting, Inside}
-use Rattle.smc_core.specs.declared.section.TheConstants.{FIRST_EPOCH, LAST_EPOCH}
-use Rattle.smc_core.specs.declared.word.Word.{Word}
-use Rattle.smc_core.specs.declared.word.Word.TheVariants as word
+use Rattle.smc_core.specs.declared.section.Section.TheVariants.{Outside, Inside}
 use Rattle.smc_core.specs.Add.{add_offer}
 use Rattle.smc_core.specs.Begin.{begin_offer}
 use Rattle.smc_core.specs.Cancel.{cancel_offer}
-use Rattle.smc_core.specs.Change.{change, advance_next, section_seen, ready_seen}
 use Rattle.smc_core.specs.Count.{count_offer}
-use Rattle.smc_core.specs.Finish.{finish_offer, finish_start}
-use Rattle.smc_core.specs.Local.{section_after}
+use Rattle.smc_core.specs.Finish.{finish_offer}
 use Rattle.smc_core.specs.Look.{look_offer}
-use Rattle.smc_core.specs.Offer.{offer, go_offer, start_offer, when_idle, when_inside, when_outside, when_held, when_begun, when_owned, look_start}
+use Rattle.smc_core.specs.Offer.{when_idle, when_inside, when_outside, when_held, when_begun, when_owned}
 use Rattle.smc_core.specs.Remove.{remove_offer}
 use Rattle.smc_core.specs.Row.{OpFits, place_of}
-use Rattle.smc_core.specs.Scan.{scan_offer, next_offer}
-use Rattle.smc_core.specs.Section.{calm_by, epoch_of, is_calm}
-use Rattle.smc_core.specs.Step.{when, goes, ends}
-use Rattle.smc_core.specs.Words.{plain_of, round_of, same_word}
-use Rattle.smc_rules.specs.EpochAgreement.{word_of_section}
-use Rattle.smc_rules.specs.EpochRule.{epoch_of_region, announced_by, own_epoch, advance_from, has_loaded}
-use Rattle.smc_rules.specs.Memory.{Memory, apply, seen}
-use Rattle.smc_rules.specs.State.{State}
-use Rattle.smc_rules.proofs.CarryLaws.{by_pass}
-use Rattle.smc_inv_epoch.specs.Epochs.{Epochs, is_first}
-use Rattle.smc_inv_epoch.proofs.Moves.{SectionFits, AdvanceFits, PassedFits, Moves, section_fits, advance_fits}
-use Rattle.smc_inv_epoch.proofs.Owed.{outside_fits, loaded_fits, announced_fits, again_fits, lasting_fits, inside_fits, word_own, section_moves, advance_moves, quiet_moves, next_moves, stored_words, stored_own}
+use Rattle.smc_core.specs.Scan.{scan_offer}
+use Rattle.smc_core.specs.Step.{when}
+use Rattle.smc_inv_epoch.specs.Epochs.{is_first}
 use Rattle.smc_inv_epoch.proofs.Quiet as Q
 
 -- where an offer stands behind a test, what is to be known of it is to be known where the test holds

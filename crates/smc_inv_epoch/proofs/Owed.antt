@@ -1,5 +1,5 @@
 -- What steps owe to the epoch rule, by what they do to the section and to the advance of their pass.
-use Rattle.std.proofs.Common.{◌≡◌, ◌≢◌, ℕ, ◌+◌, ◌<◌, ◌≤◌, ◌==◌, Bool, true, false, Option, Some, None, refl, sym, ap, ◌∙◌, subst, arith}
+use Rattle.std.proofs.Common.{◌≡◌, ◌≢◌, ℕ, ◌+◌, ◌<◌, ◌≤◌, Bool, true, false, Some, None, refl, sym, ap, ◌∙◌, subst, arith}
 use Rattle.std.specs.Prelude.{IsTrue, nat_lt, if◌then◌else◌}
 use Rattle.std.proofs.lemmas.Bool.{eq-eqb, ne_eqb, ltb-true, ltb-false}
 use Rattle.smc_shape.specs.Layout.{Layout}
@@ -13,9 +13,9 @@ use Rattle.smc_core.specs.declared.section.TheConstants.{FIRST_EPOCH, LAST_EPOCH
 use Rattle.smc_core.specs.declared.word.Word.TheVariants as word
 use Rattle.smc_core.specs.Change.{advance_next}
 use Rattle.smc_core.specs.Words.{plain_of}
-use Rattle.smc_rules.specs.EpochAgreement.{word_of_section}
-use Rattle.smc_rules.specs.EpochRule.{epoch_of_region, announced_by, first_load, own_epoch, advance_from, has_loaded}
+use Rattle.smc_rules.specs.EpochRule.{own_epoch, advance_from}
 use Rattle.smc_rules.specs.Memory.{Memory, apply, put_word}
+use Rattle.smc_rules.specs.Reads.{epoch_of_region, announced_by}
 use Rattle.smc_rules.specs.State.{State}
 use Rattle.smc_inv_epoch.specs.Epochs.{Epochs}
 use Rattle.smc_inv_epoch.proofs.Moves.{SectionFits, AdvanceFits, PassedFits, Moves, section_fits}
@@ -135,7 +135,7 @@ module _ (shape : Layout) (state : State) (pass : ℕ) (h : Epochs shape state) 
       → Moves shape state pass memory section call
   advance_moves memory section call at_section words rises last reach fits passes =
       let old : SectionFits epoch (announced_by state.memory pass) section =
-          subst (SectionFits epoch (announced_by state.memory pass)) at_section (section_fits shape state pass h within) in record {
+      subst (SectionFits epoch (announced_by state.memory pass)) at_section (section_fits shape state pass h within) in record {
         first = omega (arith, rises, h.rule.first);
         last = last;
         rises = rises;

@@ -1,11 +1,11 @@
 -- Calls that have nothing to do with epochs: no step of theirs writes the epoch or a section word, or begins an advance.
-use Rattle.std.proofs.Common.{◌≡◌, ◌≢◌, ℕ, ◌+◌, ◌<◌, ◌≤◌, Bool, true, false, not, Option, Some, None, List, refl, sym, ap, ◌∙◌, subst, arith}
-use Rattle.std.specs.Prelude.{IsTrue, nat_lt, nat_le, if◌then◌else◌}
+use Rattle.std.proofs.Common.{◌≡◌, ℕ, Bool, true, false, not, Option, None, List, refl, arith}
+use Rattle.std.specs.Prelude.{IsTrue, if◌then◌else◌}
 use Rattle.std.proofs.lemmas.Bool.Decides.{nat_tests}
 use Rattle.smc_words.specs.declared.dir.Dir.{Dir}
 use Rattle.smc_words.specs.declared.number.Number.{Number}
 use Rattle.smc_words.specs.declared.round.RoundWord.{RoundWord}
-use Rattle.smc_shape.specs.Layout.{Layout, slots_of, entries_of, width_of}
+use Rattle.smc_shape.specs.Layout.{Layout}
 use Rattle.smc_shape.specs.declared.place.Place.{Place}
 use Rattle.smc_shape.specs.declared.place.Place.TheVariants as place
 use Rattle.smc_core.specs.declared.change.Change.{Change}
@@ -13,44 +13,27 @@ use Rattle.smc_core.specs.declared.local.Owned.{Owned}
 use Rattle.smc_core.specs.declared.local.Scan.{Scan}
 use Rattle.smc_core.specs.declared.op.Op.{Op}
 use Rattle.smc_core.specs.declared.op.Op.TheVariants.{Load, Store, Exchange, MarkGone}
-use Rattle.smc_core.specs.declared.phase.Phase.{Phase}
 use Rattle.smc_core.specs.declared.phase.moves.BeginPhase.{BeginPhase}
-use Rattle.smc_core.specs.declared.phase.moves.BeginPhase.TheVariants as begin
 use Rattle.smc_core.specs.declared.phase.moves.CancelPhase.{CancelPhase}
-use Rattle.smc_core.specs.declared.phase.moves.CancelPhase.TheVariants as cancel
-use Rattle.smc_core.specs.declared.phase.moves.Count.{Count}
-use Rattle.smc_core.specs.declared.phase.moves.CountPhase.{CountPhase}
 use Rattle.smc_core.specs.declared.phase.moves.Counting.{Counting}
-use Rattle.smc_core.specs.declared.phase.moves.Counting.TheVariants.{Walks, Counted}
 use Rattle.smc_core.specs.declared.phase.moves.FinishPhase.{FinishPhase}
-use Rattle.smc_core.specs.declared.phase.moves.FinishPhase.TheVariants as finish
-use Rattle.smc_core.specs.declared.phase.moves.Walk.{Walk}
 use Rattle.smc_core.specs.declared.phase.objects.AddPhase.{AddPhase}
-use Rattle.smc_core.specs.declared.phase.objects.AddPhase.TheVariants as add
 use Rattle.smc_core.specs.declared.phase.objects.Finding.{Finding}
-use Rattle.smc_core.specs.declared.phase.objects.Finding.TheVariants.{Absent, Stays, Abandons, Helps}
 use Rattle.smc_core.specs.declared.phase.objects.LookPhase.{LookPhase}
 use Rattle.smc_core.specs.declared.phase.objects.RemovePhase.{RemovePhase}
-use Rattle.smc_core.specs.declared.phase.objects.RemovePhase.TheVariants as remove
 use Rattle.smc_core.specs.declared.phase.objects.ScanPhase.{ScanPhase}
-use Rattle.smc_core.specs.declared.phase.objects.ScanPhase.TheVariants as scan
 use Rattle.smc_core.specs.declared.phase.objects.Seeker.{Seeker}
-use Rattle.smc_core.specs.declared.phase.objects.Seeker.TheVariants as seeker
 use Rattle.smc_core.specs.declared.word.State.{State}
-use Rattle.smc_core.specs.declared.word.State.TheVariants as state
 use Rattle.smc_core.specs.declared.word.Word.{Word}
-use Rattle.smc_core.specs.declared.word.Word.TheVariants as word
-use Rattle.smc_core.specs.Add.{add_change, slot_seen, entry_seen, next_slot, next_entry}
-use Rattle.smc_core.specs.Begin.{begin_change, begin_counting, begin_counted, source_owner, next_source, to_source, to_target, past_target, round_seen, is_source, with_move}
+use Rattle.smc_core.specs.Add.{add_change, slot_seen, entry_seen}
+use Rattle.smc_core.specs.Begin.{begin_change, round_seen}
 use Rattle.smc_core.specs.Cancel.{cancel_change}
 use Rattle.smc_core.specs.Change.{remove_started, next_started, finish_owned, cancel_owned, look_started}
 use Rattle.smc_core.specs.Count.{survey_change}
-use Rattle.smc_core.specs.Finish.{finish_change, finish_started}
+use Rattle.smc_core.specs.Finish.{finish_change}
 use Rattle.smc_core.specs.Look.{look_change, looking_change, look_finding, seeker_of, sought_number}
-use Rattle.smc_core.specs.Remove.{mark_seen, remove_change}
-use Rattle.smc_core.specs.Ripe.{is_ripe_slot, is_ripe_entry}
-use Rattle.smc_core.specs.Scan.{scan_change, next_change, owner_seen}
-use Rattle.smc_core.specs.Words.{back_of, dir_of, state_of, same_word}
+use Rattle.smc_core.specs.Remove.{remove_change}
+use Rattle.smc_core.specs.Scan.{scan_change}
 use Rattle.smc_rules.specs.EpochRule.{advance_from}
 use Rattle.smc_rules.specs.Memory.{Memory, apply, same_place}
 use Rattle.smc_rules.proofs.MirrorLaws.{apply-other}

@@ -1,11 +1,12 @@
 -- What each step keeps, and what it comes to.
-use Rattle.std.specs.Prelude.{◌≡◌, ℕ, Bool, true, false, IsTrue, List}
+use Rattle.std.specs.Prelude.{ℕ, Bool, true, false, IsSomeAnd, List}
 use Rattle.smc_shape.specs.Layout.{Layout, IsShape}
 use Rattle.smc_shape.specs.declared.place.Place.{Place}
 use Rattle.smc_shape.specs.declared.place.Place.TheVariants as place
 use Rattle.smc_core.specs.declared.local.Local.{Local}
 use Rattle.smc_core.specs.declared.local.Opening.{Opening}
 use Rattle.smc_core.specs.Machine.{IsOpening, IsOpened, Reach}
+use Rattle.smc_core.specs.Played.{Schedule, shape_of, played}
 use Rattle.smc_rules.specs.EpochAgreement.{EpochAgreement}
 use Rattle.smc_rules.specs.EpochRule.{EpochRule}
 use Rattle.smc_rules.specs.State.{State, IsKept, Backed}
@@ -25,6 +26,14 @@ pub record Epochs (shape : Layout) (state : State) : Type 0 where
 -- each step of each kind keeps it, whatever an entry, a directory word, an owner, a target or a field says
 abbrev pub EpochsAreKept : Type 0
 EpochsAreKept = (shape : Layout) → IsShape shape → IsKept shape is_first (Epochs shape)
+
+-- the opening of a schedule's region
+abbrev pub opening_of : Schedule → Opening
+opening_of s = record { epoch = s.epoch; incarnation = s.incarnation }
+
+-- the epoch rule holds where a schedule has led, if all of it can be played
+abbrev pub HoldsAfter : Schedule → Type 0
+HoldsAfter s = IsSomeAnd (played s) (λ m. Backed (shape_of s) is_first (EpochRule (shape_of s)) m.row m.locals)
 
 -- behind every row and all local states that steps lead to from a region without objects stands a state that has the
 -- epoch rule; the row mirrors its epoch, its round and its section words

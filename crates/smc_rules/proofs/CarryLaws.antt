@@ -1,5 +1,5 @@
 -- What each step keeps holds after every list of steps.
-use Rattle.std.proofs.Common.{◌≡◌, ◌≢◌, ℕ, zero, suc, ◌<◌, ◌==◌, Bool, true, false, Option, Some, None, List, [], ◌∷◌, length, refl, sym, ap, ◌∙◌, subst, arith}
+use Rattle.std.proofs.Common.{◌≡◌, ◌≢◌, ℕ, zero, suc, ◌<◌, ◌==◌, Bool, true, false, Some, List, [], ◌∷◌, refl, sym, ap, ◌∙◌, subst, arith}
 use Rattle.std.specs.Prelude.{IsTrue, replicate, slice_get, slice_set, if◌then◌else◌}
 use Rattle.std.proofs.lemmas.Bool.{eq-eqb, ne_eqb, eqb-true, eqb-false}
 use Rattle.std.proofs.lemmas.List.{length-set, length-replicate}
@@ -14,9 +14,8 @@ use Rattle.smc_core.specs.declared.op.Op.{Op}
 use Rattle.smc_core.specs.declared.word.Word.{Word}
 use Rattle.smc_core.specs.Local.{fresh, after}
 use Rattle.smc_core.specs.Machine.{Machine, Steps, Leads, Reach, IsOpened, first_word, started, stepped}
-use Rattle.smc_core.specs.Row.{Suits, place_of, row_after, row_shows}
-use Rattle.smc_rules.specs.Memory.{seen}
-use Rattle.smc_rules.specs.Mirror.{MirrorsAt, IsMirrored}
+use Rattle.smc_core.specs.Row.{Suits, row_shows}
+use Rattle.smc_rules.specs.Mirror.{IsMirrored}
 use Rattle.smc_rules.specs.State.{State, put_stand, stand_offer, stand_then, state_after, first_state, Backs, IsKept, Backed}
 use Rattle.smc_rules.proofs.MirrorLaws.{mirrored}
 
@@ -60,7 +59,7 @@ module _ (shape : Layout) (these : Place → Bool) (valid : IsShape shape) where
       → Backs shape these m.row m.locals state → slice_get m.locals pass ≡ Some l
       → IsMirrored shape these m.row state.memory op
       → let next : Machine = stepped shape m pass l choice told op in
-        Backs shape these next.row next.locals (state_after shape state pass choice told op (row_shows shape op m.row))
+      Backs shape these next.row next.locals (state_after shape state pass choice told op (row_shows shape op m.row))
   backs_step m pass choice l told op state b here mir =
       let w : Word = row_shows shape op m.row in
       let l' : Local = after shape pass l choice told w in
@@ -70,9 +69,9 @@ module _ (shape : Layout) (these : Place → Bool) (valid : IsShape shape) where
         count = length-set m.locals pass l' ∙ b.count;
         same = λ other x is. by_pass other pass
             (λ e. let found : l' ≡ x = some-same l' x (sym (get-set_same m.locals pass l l' here) ∙ subst (λ (r : ℕ). slice_get (slice_set m.locals pass l') r ≡ Some x) e is) in
-                put_stand-same state.stands pass other (stand_then shape pass (state.stands pass) choice told w) e ∙ (new ∙ ap (λ (k : Local). k.stand) found))
+            put_stand-same state.stands pass other (stand_then shape pass (state.stands pass) choice told w) e ∙ (new ∙ ap (λ (k : Local). k.stand) found))
             (λ ne. put_stand-other state.stands pass other (stand_then shape pass (state.stands pass) choice told w) ne
-                ∙ b.same other x (sym (get-set_other m.locals pass other l' ne) ∙ is));
+            ∙ b.same other x (sym (get-set_other m.locals pass other l' ne) ∙ is));
       }
 
   module _ (Rule : State → Type 0) (keeps : IsKept shape these Rule) where
@@ -85,9 +84,9 @@ module _ (shape : Layout) (these : Place → Bool) (valid : IsShape shape) where
         let op : Op = step.offered.op in
         let within : pass < shape.passes = omega (arith, slice_get_within m.locals pass l step.here, b.backs.count) in
         let offers : stand_offer shape pass (state.stands pass) choice ≡ Some step.offered =
-            ap (λ (k : Stand). stand_offer shape pass k choice) (b.backs.same pass l step.here) ∙ step.offers in
+        ap (λ (k : Stand). stand_offer shape pass k choice) (b.backs.same pass l step.here) ∙ step.offers in
         let mir : IsMirrored shape these m.row state.memory op =
-            mirrored shape these m.row state.memory op valid b.backs.mirrors (keeps.fits state pass choice step.offered within b.rule offers) in
+        mirrored shape these m.row state.memory op valid b.backs.mirrors (keeps.fits state pass choice step.offered within b.rule offers) in
         subst (λ (k : Machine). Backed shape these Rule k.row k.locals) (sym step.leads) (record {
           state = state_after shape state pass choice step.told op (row_shows shape op m.row);
           backs = backs_step m pass choice l step.told op state b.backs step.here mir;

@@ -3,3 +3,4 @@ pub mod ReadBack
 pub mod MirrorLaws
 pub mod CarryLaws
 pub mod OfferLaws
+pub mod FirstState

@@ -7,7 +7,7 @@ use Rattle.std.proofs.lemmas.List.{get_or-set_same, get_or-set_other, length-set
 use Rattle.std.proofs.lemmas.Nat.{or_block}
 use lib.Bits.{or_zero_r}
 use Rattle.smc_words.specs.declared.entry.TheConstants.Entry.{GONE}
-use Rattle.smc_shape.specs.Layout.{Layout, IsShape, words_of}
+use Rattle.smc_shape.specs.Layout.{Layout, IsShape}
 use Rattle.smc_shape.specs.Places.{InRange, at}
 use Rattle.smc_shape.specs.declared.place.Place.{Place}
 use Rattle.smc_shape.specs.declared.place.Place.TheVariants as place
@@ -18,9 +18,9 @@ use Rattle.smc_core.specs.declared.word.State.{State}
 use Rattle.smc_core.specs.declared.word.State.TheVariants as state
 use Rattle.smc_core.specs.declared.word.Word.{Word}
 use Rattle.smc_core.specs.declared.word.Word.TheVariants as word
-use Rattle.smc_core.specs.Row.{packed, unpacked, Suits, FitsState, OpFits, place_of, has_place, put, number_at, row_after, row_shows}
+use Rattle.smc_core.specs.Row.{packed, unpacked, Suits, FitsState, OpFits, place_of, has_place, put, number_at, row_after}
 use Rattle.smc_core.specs.Words.{same_word, state_of, gone}
-use Rattle.smc_rules.specs.Memory.{Memory, same_place, put_word, apply, seen}
+use Rattle.smc_rules.specs.Memory.{Memory, same_place, put_word, apply}
 use Rattle.smc_rules.specs.Mirror.{MirrorsAt, IsMirrored}
 use Rattle.smc_rules.proofs.PlaceLaws.{same_place-refl, same_place-eq, in_range-has, has-in_range}
 use Rattle.smc_rules.proofs.ReadBack.{unpacked-packed}
@@ -113,9 +113,9 @@ module _ (shape : Layout) (these : Place → Bool) (row : List ℕ) (memory : Me
           rw (e, one) (get_or-set_same row (at shape here) number 0 within ∙ is)
       words-at there u q false e =
           let apart : at shape there ≢ at shape here = λ same.
-              let one : there ≡ here = at-apart shape there here valid q r same in
-              let no : same_place here here ≡ false = subst (λ z. same_place z here ≡ false) one e in
-              absurd (grind (arith, no, same_place-refl here)) in
+          let one : there ≡ here = at-apart shape there here valid q r same in
+          let no : same_place here here ≡ false = subst (λ z. same_place z here ≡ false) one e in
+          absurd (grind (arith, no, same_place-refl here)) in
           rw e (get_or-set_other row (at shape here) (at shape there) number 0 apart ∙ h.words there u q)
 
       suits-at : (there : Place) → IsTrue (these there) → InRange shape there → (b : Bool) → same_place there here ≡ b
@@ -192,8 +192,8 @@ module _ (shape : Layout) (these : Place → Bool) (row : List ℕ) (memory : Me
       subst (After op) (sym (row-there op r))
       (elsewhere op (slice_set row (at shape (place_of op)) number) away (length-set row (at shape (place_of op)) number)
       (λ there u q. get_or-set_other row (at shape (place_of op)) (at shape there) number 0 (λ same.
-          let one : there ≡ place_of op = at-apart shape there (place_of op) valid q r same in
-          both (these (place_of op)) (subst (λ p. IsTrue (these p)) one u) away)))
+      let one : there ≡ place_of op = at-apart shape there (place_of op) valid q r same in
+      both (these (place_of op)) (subst (λ p. IsTrue (these p)) one u) away)))
   away_from op away false has = subst (After op) (sym (rw has refl)) (elsewhere op row away refl (λ there u q. refl))
 
   -- the operation on the row is the operation on the memory

@@ -1,5 +1,5 @@
 -- A word that suits its place is read back from its number.
-use Rattle.std.proofs.Common.{◌≡◌, ℕ, ◌+◌, ◌*◌, ◌/◌, ◌%◌, ◌<◌, Option, Some, None, refl, sym, ap, ◌∙◌, arith}
+use Rattle.std.proofs.Common.{◌≡◌, ℕ, Option, Some, None, refl, ap, arith}
 use Rattle.std.proofs.lemmas.Bool.Decides.{nat_tests}
 use Rattle.smc_words.specs.Dir.{packed_dir, FitsDir}
 use Rattle.smc_words.specs.Number.{packed_number, FitsNumber}
@@ -14,7 +14,7 @@ use Rattle.smc_core.specs.declared.word.State.{State}
 use Rattle.smc_core.specs.declared.word.State.TheVariants as state
 use Rattle.smc_core.specs.declared.word.Word.{Word}
 use Rattle.smc_core.specs.declared.word.Word.TheVariants as word
-use Rattle.smc_core.specs.Row.{packed, unpacked, unpacked_entry, unpacked_dir, unpacked_number, unpacked_round, state_in, slot_in, FitsState, Suits}
+use Rattle.smc_core.specs.Row.{packed, unpacked, unpacked_entry, unpacked_dir, unpacked_number, unpacked_round, state_in, FitsState, Suits}
 
 state-back : (s : State) → FitsState s → state_in (unpacked_entry (packed (word.Entry s))) ≡ s
 state-back (state.Free incarnation stamp) f = grind (arith, nat_tests)

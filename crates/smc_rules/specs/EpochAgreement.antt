@@ -1,13 +1,14 @@
 -- What the section words and the local states say alike, and what else the epoch rule needs to be kept.
 --
 -- Nobody has to believe these: they are here because the rule does not follow from itself alone.
-use Rattle.std.specs.Prelude.{◌≡◌, ℕ, ◌<◌, ◌≤◌, Option, Some, None}
+use Rattle.std.specs.Prelude.{◌≡◌, ℕ, ◌<◌, ◌≤◌, Some}
 use Rattle.smc_shape.specs.Layout.{Layout}
 use Rattle.smc_core.specs.declared.phase.Phase.TheVariants as phase
 use Rattle.smc_core.specs.declared.section.Section.{Section}
 use Rattle.smc_core.specs.declared.section.Section.TheVariants.{Outside, Loaded, Announced, Again, Lasting, Inside}
 use Rattle.smc_core.specs.declared.section.TheConstants.{FIRST_EPOCH, LAST_EPOCH}
-use Rattle.smc_rules.specs.EpochRule.{announced_by, first_load, own_epoch, advance_from}
+use Rattle.smc_rules.specs.EpochRule.{first_load, own_epoch, advance_from}
+use Rattle.smc_rules.specs.Reads.{announced_by}
 use Rattle.smc_rules.specs.State.{State}
 
 -- what the section word says of a section: the first epoch from its first store to its second, then the section's own

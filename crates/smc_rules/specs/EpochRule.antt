@@ -1,24 +1,13 @@
 -- The epoch rule: how far apart the epoch, the sections and the advances may be.
 use Rattle.std.specs.Prelude.{◌≡◌, ℕ, ◌+◌, ◌<◌, ◌≤◌, nat_lt, Bool, true, false, IsTrue, Option, Some, None}
 use Rattle.smc_shape.specs.Layout.{Layout}
-use Rattle.smc_shape.specs.declared.place.Place.{Place}
-use Rattle.smc_shape.specs.declared.place.Place.TheVariants as place
 use Rattle.smc_core.specs.declared.phase.Phase.{Phase}
 use Rattle.smc_core.specs.declared.phase.Phase.TheVariants as phase
 use Rattle.smc_core.specs.declared.section.Section.{Section}
 use Rattle.smc_core.specs.declared.section.Section.TheVariants.{Outside, Loaded, Announced, Again, Lasting, Inside}
 use Rattle.smc_core.specs.declared.section.TheConstants.{FIRST_EPOCH, LAST_EPOCH}
-use Rattle.smc_core.specs.Words.{plain_of}
-use Rattle.smc_rules.specs.Memory.{Memory}
+use Rattle.smc_rules.specs.Reads.{epoch_of_region}
 use Rattle.smc_rules.specs.State.{State}
-
--- the epoch of the region
-abbrev pub epoch_of_region : Memory → ℕ
-epoch_of_region memory = plain_of (memory place.Epoch)
-
--- the epoch that the section word of a pass announces, or 0
-abbrev pub announced_by : Memory → ℕ → ℕ
-announced_by memory pass = plain_of (memory (place.Section pass))
 
 -- the epoch that a section loaded first, until it lasts
 abbrev pub first_load : Section → Option ℕ

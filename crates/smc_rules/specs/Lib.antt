@@ -1,5 +1,9 @@
 pub mod Memory
 pub mod Mirror
+pub mod Reads
 pub mod State
 pub mod EpochRule
 pub mod EpochAgreement
+pub mod Calls
+pub mod SlotRule
+pub mod RelocationRule

@@ -1,5 +1,5 @@
 -- The memory of a region as data: what each place says, and what an operation makes of it.
-use Rattle.std.specs.Prelude.{ℕ, ◌==◌, ◌&&◌, Bool, true, false, if◌then◌else◌}
+use Rattle.std.specs.Prelude.{◌==◌, ◌&&◌, Bool, true, false, if◌then◌else◌}
 use Rattle.smc_shape.specs.declared.place.Place.{Place}
 use Rattle.smc_shape.specs.declared.place.Place.TheVariants as place
 use Rattle.smc_core.specs.declared.op.Op.{Op}

@@ -1,4 +1,12 @@
-//! The rules that every state of the machine keeps, as definitions over a typed memory.
+//! The rules that a running region keeps, said of its memory as data, and what carries a rule over lists of steps.
+//!
+//! There is no code here but `laws`, the theorems. Above the machine of `smc_core`, `specs` has the memory (`Memory`,
+//! and `Reads`: what it says), when the row of numbers mirrors it (`Mirror`), and the states that rules speak of, with
+//! what a step makes of them (`State`). The rules themselves stand in `EpochRule`, `SlotRule` and `RelocationRule`, over
+//! `Calls`: what a call in progress has claimed, owes and copies. A reader has to believe these three and nothing else;
+//! `EpochAgreement` is there for the proof alone. A crate above proves that each step keeps a rule (`IsKept`), and has
+//! from `proofs/CarryLaws` that it holds in every state of `Reach`. Today that is `smc_inv_epoch`, for the epoch rule;
+//! the other two are definitions that no law carries yet, beyond the state in which a region begins.
 #![tactic(auto)]
 
 pub mod laws;
