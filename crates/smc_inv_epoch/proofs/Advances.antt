@@ -29,7 +29,7 @@ use Rattle.smc_rules.proofs.MirrorLaws.{same_word-eq}
 use Rattle.smc_inv_epoch.specs.Epochs.{Epochs}
 use Rattle.smc_inv_epoch.proofs.Moves.{Moves, section_fits}
 use Rattle.smc_inv_epoch.proofs.Owed.{word_own, advance_moves, quiet_moves, next_moves, calm_advance, calm_passed}
-use Rattle.smc_inv_epoch.proofs.Offers.{if_outside}
+use Rattle.smc_rules.proofs.OfferLaws.{if_outside}
 use Rattle.smc_inv_epoch.proofs.Pays.{Pays}
 
 module _ (shape : Layout) (state : State) (pass : ℕ) (h : Epochs shape state) (within : pass < shape.passes) (valid : IsShape shape) where

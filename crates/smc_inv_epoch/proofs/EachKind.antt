@@ -1,8 +1,7 @@
 -- Each step of each kind pays what it owes to the epoch rule.
-use Rattle.std.proofs.Common.{◌≡◌, ℕ, ◌<◌, ◌==◌, ◌&&◌, not, length, refl, sym, subst}
+use Rattle.std.proofs.Common.{◌≡◌, ℕ, ◌<◌, ◌&&◌, length, refl, sym, subst}
 use Rattle.std.specs.Prelude.{IfSome, nat_lt}
 use Rattle.std.proofs.lemmas.Bool.{ltb-true}
-use Rattle.smc_words.specs.declared.layout.TheConstants.{BLANK}
 use Rattle.smc_shape.specs.Layout.{Layout, IsShape, width_of}
 use Rattle.smc_core.specs.declared.call.Call.{Call}
 use Rattle.smc_core.specs.declared.call.Call.TheVariants as call
@@ -13,7 +12,7 @@ use Rattle.smc_core.specs.declared.phase.Phase.{Phase}
 use Rattle.smc_core.specs.declared.phase.Phase.TheVariants as phase
 use Rattle.smc_core.specs.declared.phase.moves.CountPhase.TheVariants as walk
 use Rattle.smc_core.specs.declared.section.Section.{Section}
-use Rattle.smc_core.specs.Add.{add_offer, takes}
+use Rattle.smc_core.specs.Add.{add_offer, is_value, takes}
 use Rattle.smc_core.specs.Begin.{begin_offer}
 use Rattle.smc_core.specs.Cancel.{cancel_offer}
 use Rattle.smc_core.specs.Count.{count_offer, counting, no_count}
@@ -29,7 +28,8 @@ use Rattle.smc_rules.specs.Reads.{epoch_of_region}
 use Rattle.smc_rules.specs.State.{State}
 use Rattle.smc_inv_epoch.specs.Epochs.{Epochs}
 use Rattle.smc_inv_epoch.proofs.Quiet as Q
-use Rattle.smc_inv_epoch.proofs.Offers.{if_idle, if_outside, if_inside, if_test, if_held, if_begun, if_owned, look-far, add-far, remove-far, count-far, scan-leaves, begin-leaves, finish-leaves, cancel-leaves, scan-fits, begin-fits, finish-fits, cancel-fits}
+use Rattle.smc_rules.proofs.OfferLaws.{if_idle, if_outside, if_inside, if_test, if_held, if_begun, if_owned}
+use Rattle.smc_inv_epoch.proofs.Offers.{look-far, add-far, remove-far, count-far, scan-leaves, begin-leaves, finish-leaves, cancel-leaves, scan-fits, begin-fits, finish-fits, cancel-fits}
 use Rattle.smc_inv_epoch.proofs.Pays.{Pays, quiet, far, own_load, look_start-bears, next_offer-bears, finish_start-bears, round-fits}
 use Rattle.smc_inv_epoch.proofs.Enters.{entering, begins_enter, begins_leave}
 use Rattle.smc_inv_epoch.proofs.Advances.{advancing, ready, begins_advance}
@@ -78,31 +78,31 @@ module _ (shape : Layout) (state : State) (pass : ℕ) (h : Epochs shape state) 
   starting section at (call.Look number) = if_inside (Pays shape state pass h within valid section phase.Idle (Start (call.Look number))) section _ (λ own calm is. let bears = look_start-bears shape state pass h within valid number in
       quiet shape state pass h within valid section phase.Idle (Start (call.Look number)) _ at bears.0 bears.1 (λ w. refl) (λ told w. Q.look_started-calm shape (is_calm section) number w))
   starting section at (call.Read number field) = if_inside (Pays shape state pass h within valid section phase.Idle (Start (call.Read number field))) section _ (λ own calm is.
-      if_held (Pays shape state pass h within valid section phase.Idle (Start (call.Read number field))) (held_slot stand.held number) _ (λ slot.
+      if_held (Pays shape state pass h within valid section phase.Idle (Start (call.Read number field))) (held_slot stand.held number) _ (λ slot _.
       if_test (Pays shape state pass h within valid section phase.Idle (Start (call.Read number field))) (nat_lt field (width_of shape number.coll)) _ (λ t.
       far shape state pass h within valid section phase.Idle (Start (call.Read number field)) _ at refl (λ w. refl) (λ told w. refl))))
   starting section at (call.Write number field value) = if_inside (Pays shape state pass h within valid section phase.Idle (Start (call.Write number field value))) section _ (λ own calm is.
-      if_held (Pays shape state pass h within valid section phase.Idle (Start (call.Write number field value))) (held_slot stand.held number) _ (λ slot.
-      if_test (Pays shape state pass h within valid section phase.Idle (Start (call.Write number field value))) (nat_lt field (width_of shape number.coll) && not (value == BLANK)) _ (λ t.
+      if_held (Pays shape state pass h within valid section phase.Idle (Start (call.Write number field value))) (held_slot stand.held number) _ (λ slot _.
+      if_test (Pays shape state pass h within valid section phase.Idle (Start (call.Write number field value))) (nat_lt field (width_of shape number.coll) && is_value value) _ (λ t.
       far shape state pass h within valid section phase.Idle (Start (call.Write number field value)) _ at refl (λ w. refl) (λ told w. refl))))
   starting section at (call.Remove number) = if_inside (Pays shape state pass h within valid section phase.Idle (Start (call.Remove number))) section _ (λ own calm is.
-      if_held (Pays shape state pass h within valid section phase.Idle (Start (call.Remove number))) (held_slot stand.held number) _ (λ slot.
+      if_held (Pays shape state pass h within valid section phase.Idle (Start (call.Remove number))) (held_slot stand.held number) _ (λ slot _.
       far shape state pass h within valid section phase.Idle (Start (call.Remove number)) _ at refl (λ w. refl) (λ told w. Q.remove_started-calm shape number (held_slot stand.held number) (state_of w))))
   starting section at (call.Scan coll) = if_inside (Pays shape state pass h within valid section phase.Idle (Start (call.Scan coll))) section _ (λ own calm is.
       if_test (Pays shape state pass h within valid section phase.Idle (Start (call.Scan coll))) (nat_lt coll (length shape.colls)) _ (λ t.
       quiet shape state pass h within valid section phase.Idle (Start (call.Scan coll)) _ at (own_load shape state pass h within valid).0 refl (λ w. refl) (λ told w. refl)))
   starting section at (call.Next scan) = if_inside (Pays shape state pass h within valid section phase.Idle (Start (call.Next scan))) section _ (λ own calm is.
-      if_begun (Pays shape state pass h within valid section phase.Idle (Start (call.Next scan))) (scan_of stand.scans scan) _ (λ one. let bears = next_offer-bears shape state pass h within valid one in
+      if_begun (Pays shape state pass h within valid section phase.Idle (Start (call.Next scan))) (scan_of stand.scans scan) _ (λ one _. let bears = next_offer-bears shape state pass h within valid one in
       quiet shape state pass h within valid section phase.Idle (Start (call.Next scan)) _ at bears.0 bears.1 (λ w. refl) (λ told w. Q.next_started-calm shape (scan_of stand.scans scan) w)))
   starting section at (call.Begin coll) = if_inside (Pays shape state pass h within valid section phase.Idle (Start (call.Begin coll))) section _ (λ own calm is.
       if_test (Pays shape state pass h within valid section phase.Idle (Start (call.Begin coll))) (nat_lt coll (length shape.colls)) _ (λ t.
       quiet shape state pass h within valid section phase.Idle (Start (call.Begin coll)) _ at (round-fits shape state pass h within valid section own coll calm at is (ltb-true coll (length shape.colls) t)) refl (λ w. refl)
       (λ told w. Q.round_seen-calm shape coll (round_of w))))
   starting section at call.Finish = if_inside (Pays shape state pass h within valid section phase.Idle (Start call.Finish)) section _ (λ own calm is.
-      if_owned (Pays shape state pass h within valid section phase.Idle (Start call.Finish)) stand.round _ (λ owned. let bears = finish_start-bears shape state pass h within valid (epoch_of section) owned in
+      if_owned (Pays shape state pass h within valid section phase.Idle (Start call.Finish)) stand.round _ (λ owned _. let bears = finish_start-bears shape state pass h within valid (epoch_of section) owned in
       quiet shape state pass h within valid section phase.Idle (Start call.Finish) _ at bears.0 bears.1 (λ w. refl) (λ told w. Q.finish_owned-calm shape (epoch_of section) stand.round w)))
   starting section at call.Cancel = if_inside (Pays shape state pass h within valid section phase.Idle (Start call.Cancel)) section _ (λ own calm is.
-      if_owned (Pays shape state pass h within valid section phase.Idle (Start call.Cancel)) stand.round _ (λ owned.
+      if_owned (Pays shape state pass h within valid section phase.Idle (Start call.Cancel)) stand.round _ (λ owned _.
       far shape state pass h within valid section phase.Idle (Start call.Cancel) _ at refl (λ w. refl) (λ told w. Q.cancel_owned-calm shape stand.round w)))
   starting section at (call.Survey coll) = if_inside (Pays shape state pass h within valid section phase.Idle (Start (call.Survey coll))) section _ (λ own calm is.
       if_test (Pays shape state pass h within valid section phase.Idle (Start (call.Survey coll))) (nat_lt coll (length shape.colls)) _ (λ t.

@@ -17,7 +17,7 @@ use Rattle.smc_rules.specs.Reads.{epoch_of_region, announced_by}
 use Rattle.smc_rules.specs.State.{State}
 use Rattle.smc_inv_epoch.specs.Epochs.{Epochs}
 use Rattle.smc_inv_epoch.proofs.Owed.{outside_fits, loaded_fits, announced_fits, again_fits, lasting_fits, inside_fits, section_moves, stored_words, stored_own}
-use Rattle.smc_inv_epoch.proofs.Offers.{if_outside, if_inside}
+use Rattle.smc_rules.proofs.OfferLaws.{if_outside, if_inside}
 use Rattle.smc_inv_epoch.proofs.Pays.{Pays, own_fits}
 
 module _ (shape : Layout) (state : State) (pass : ℕ) (h : Epochs shape state) (within : pass < shape.passes) (valid : IsShape shape) where

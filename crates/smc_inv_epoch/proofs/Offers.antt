@@ -36,36 +36,6 @@ use Rattle.smc_core.specs.Step.{when}
 use Rattle.smc_inv_epoch.specs.Epochs.{is_first}
 use Rattle.smc_inv_epoch.proofs.Quiet as Q
 
--- where an offer stands behind a test, what is to be known of it is to be known where the test holds
-module _ (P : Offer → Type 0) where
-  pub if_idle : (call : Phase) (o : Option Offer) → (call ≡ phase.Idle → IfSome o P) → IfSome (when_idle call o) P
-  if_idle phase.Idle o k = k refl
-  if_idle _ o k = tt
-
-  pub if_outside : (section : Section) (o : Option Offer) → (section ≡ Outside → IfSome o P) → IfSome (when_outside section o) P
-  if_outside Outside o k = k refl
-  if_outside _ o k = tt
-
-  pub if_inside : (section : Section) (o : Option Offer) → ((own : ℕ) (calm : Bool) → section ≡ Inside own calm → IfSome o P) → IfSome (when_inside section o) P
-  if_inside (Inside own calm) o k = k own calm refl
-  if_inside _ o k = tt
-
-  pub if_test : (b : Bool) (o : Offer) → (b ≡ true → P o) → IfSome (when b o) P
-  if_test true o k = k refl
-  if_test false o k = tt
-
-  pub if_held : (held : Option ℕ) (o : ℕ → Option Offer) → ((slot : ℕ) → IfSome (o slot) P) → IfSome (when_held held o) P
-  if_held None o k = tt
-  if_held (Some slot) o k = k slot
-
-  pub if_begun : (begun : Option Scan) (o : Scan → Offer) → ((one : Scan) → P (o one)) → IfSome (when_begun begun o) P
-  if_begun None o k = tt
-  if_begun (Some one) o k = k one
-
-  pub if_owned : (owned : Option Owned) (o : Owned → Offer) → ((one : Owned) → P (o one)) → IfSome (when_owned owned o) P
-  if_owned None o k = tt
-  if_owned (Some one) o k = k one
-
 -- steps that are on no place of the epoch, the round or a section
 pub look-far : (next : LookPhase) → is_first (place_of (look_offer next).op) ≡ false
 look-far next = grind arith
