@@ -1,14 +1,10 @@
 -- A memory whose words keep their ranges, and what an operation within them leaves of it.
-use Rattle.std.proofs.Common.{◌≡◌, ℕ, ◌+◌, ◌<◌, ◌≤◌, Bool, true, false, Option, Some, None, length, refl, sym, ap, subst, inl, inr, arith}
+use Rattle.std.proofs.Common.{◌≡◌, ℕ, ◌<◌, ◌≤◌, Bool, true, false, Option, Some, None, length, refl, sym, ap, subst, inl, inr, arith}
 use Rattle.std.specs.Prelude.{if◌then◌else◌}
-use Rattle.std.proofs.lemmas.Bool.Decides.{nat_tests}
 use Rattle.smc_words.specs.declared.layout.TheConstants.{ENTRIES}
-use Rattle.smc_words.specs.declared.dir.Dir.{Dir}
 use Rattle.smc_words.specs.declared.number.Number.{Number}
-use Rattle.smc_words.specs.declared.round.RoundWord.{RoundWord}
 use Rattle.smc_words.specs.Number.{FitsNumber}
-use Rattle.smc_shape.specs.Layout.{Layout, IsShape, slots_of, entries_of}
-use Rattle.smc_shape.specs.Places.{InRange}
+use Rattle.smc_shape.specs.Layout.{Layout, IsShape, entries_of}
 use Rattle.smc_shape.specs.declared.place.Place.{Place}
 use Rattle.smc_shape.specs.declared.place.Place.TheVariants as place
 use Rattle.smc_core.specs.declared.op.Op.{Op}
@@ -17,7 +13,7 @@ use Rattle.smc_core.specs.declared.word.State.{State}
 use Rattle.smc_core.specs.declared.word.State.TheVariants as state
 use Rattle.smc_core.specs.declared.word.Word.{Word}
 use Rattle.smc_core.specs.declared.word.Word.TheVariants as word
-use Rattle.smc_core.specs.Row.{Suits, FitsState, OpFits, place_of}
+use Rattle.smc_core.specs.Row.{Suits, FitsState, OpFits}
 use Rattle.smc_core.specs.Words.{plain_of, dir_of, state_of, back_of, forward_of, gone, same_word}
 use Rattle.smc_core.specs.declared.section.TheConstants.{LAST_EPOCH}
 use Rattle.smc_words.specs.Dir.{FitsDir}
@@ -25,7 +21,7 @@ use Rattle.std.specs.Prelude.{◌^◌}
 use Rattle.std.proofs.lemmas.Bool.{cases_lt}
 use Rattle.std.proofs.lemmas.List.{get_or_past}
 use Rattle.smc_shape.proofs.PlaceLaws.{coll-small}
-use Rattle.smc_shape.specs.Layout.{Collection, coll_of, no_coll, IsCollection}
+use Rattle.smc_shape.specs.Layout.{Collection, coll_of, no_coll}
 use Rattle.smc_rules.specs.Memory.{Memory, same_place, put_word, apply, seen}
 use Rattle.smc_rules.proofs.PlaceLaws.{same_place-eq}
 use Rattle.smc_inv_range.specs.Ranges.{IsNumberOf, IsSlot, InState, InWord, InMemory, InOp, InShown}
@@ -44,13 +40,13 @@ coll_past shape coll past = get_or_past shape.colls coll no_coll past
 
 pub entry_coll : (shape : Layout) (coll entry : ℕ) → entry < entries_of shape coll → coll < length shape.colls
 entry_coll shape coll entry lt = elim (cases_lt coll (length shape.colls)) [
-  inl l ↦ l
+  | inl l ↦ l
   | inr past ↦ absurd (omega (arith, lt, ap (λ (c : Collection). c.entries) (coll_past shape coll past)))
 ]
 
 pub slot_coll : (shape : Layout) (coll slot : ℕ) → IsSlot shape coll slot → coll < length shape.colls
 slot_coll shape coll slot lt = elim (cases_lt coll (length shape.colls)) [
-  inl l ↦ l
+  | inl l ↦ l
   | inr past ↦ absurd (omega (arith, lt, ap (λ (c : Collection). c.slots) (coll_past shape coll past)))
 ]
 

@@ -1,76 +1,39 @@
 -- An add, a remove and a scan stay within the region.
-use Rattle.std.proofs.Common.{◌≡◌, ℕ, ◌+◌, ◌*◌, ◌<◌, ◌≤◌, ◌==◌, ◌||◌, ◌&&◌, zero, suc, Bool, true, false, not, nat_lt, Option, Some, None, List, [], ◌∷◌, length, slice_index, refl, sym, ap, ◌∙◌, subst, arith}
-use Rattle.std.specs.Prelude.{◌^◌, IsTrue, IfSome, if◌then◌else◌}
+use Rattle.std.proofs.Common.{◌≡◌, ℕ, ◌+◌, ◌<◌, ◌≤◌, zero, suc, true, false, nat_lt, Option, Some, None, List, [], ◌∷◌, slice_index, refl, arith}
+use Rattle.std.specs.Prelude.{◌^◌, IsTrue}
 use Rattle.std.proofs.lemmas.Bool.Decides.{nat_tests}
-use Rattle.std.proofs.lemmas.Bool.{eqb-true, ltb-true}
-use Rattle.smc_words.specs.declared.layout.TheConstants.{BLANK, EPOCHS, INCARNATIONS}
+use Rattle.std.proofs.lemmas.Bool.{ltb-true}
+use Rattle.smc_words.specs.declared.layout.TheConstants.{INCARNATIONS}
 use Rattle.smc_words.specs.declared.dir.Dir.{Dir}
-use Rattle.smc_words.specs.declared.dir.Dir.TheVariants as dir
 use Rattle.smc_words.specs.declared.number.Number.{Number}
-use Rattle.smc_words.specs.declared.round.RoundWord.{RoundWord}
 use Rattle.smc_words.specs.Dir.{FitsDir}
 use Rattle.smc_shape.specs.Layout.{Layout, IsShape, width_of, slots_of, entries_of}
-use Rattle.smc_shape.specs.Places.{InRange}
-use Rattle.smc_shape.specs.declared.place.Place.{Place}
-use Rattle.smc_shape.specs.declared.place.Place.TheVariants as place
-use Rattle.smc_model.specs.declared.event.Cause.{Cause}
-use Rattle.smc_core.specs.declared.change.Change.{Change}
 use Rattle.smc_core.specs.declared.done.Done.TheVariants as done
-use Rattle.smc_core.specs.declared.local.Held.{Held}
-use Rattle.smc_core.specs.declared.local.Scan.{Scan}
-use Rattle.smc_core.specs.declared.op.Op.{Op}
-use Rattle.smc_core.specs.declared.op.Op.TheVariants.{Load, Store, Exchange, MarkGone}
-use Rattle.smc_core.specs.declared.phase.Phase.{Phase}
 use Rattle.smc_core.specs.declared.phase.Phase.TheVariants as phase
-use Rattle.smc_core.specs.declared.phase.moves.BeginPhase.{BeginPhase}
-use Rattle.smc_core.specs.declared.phase.moves.BeginPhase.TheVariants as begin
-use Rattle.smc_core.specs.declared.phase.moves.CancelPhase.{CancelPhase}
-use Rattle.smc_core.specs.declared.phase.moves.CancelPhase.TheVariants as cancel
-use Rattle.smc_core.specs.declared.phase.moves.Count.{Count}
-use Rattle.smc_core.specs.declared.phase.moves.Counting.{Counting}
-use Rattle.smc_core.specs.declared.phase.moves.Counting.TheVariants.{Walks, Counted}
-use Rattle.smc_core.specs.declared.phase.moves.CountPhase.{CountPhase}
-use Rattle.smc_core.specs.declared.phase.moves.CountPhase.TheVariants as walk
-use Rattle.smc_core.specs.declared.phase.moves.FinishPhase.{FinishPhase}
-use Rattle.smc_core.specs.declared.phase.moves.FinishPhase.TheVariants as finish
-use Rattle.smc_core.specs.declared.phase.moves.Targets.{Targets}
-use Rattle.smc_core.specs.declared.phase.moves.Walk.{Walk}
 use Rattle.smc_core.specs.declared.phase.objects.AddPhase.{AddPhase}
 use Rattle.smc_core.specs.declared.phase.objects.AddPhase.TheVariants as add
-use Rattle.smc_core.specs.declared.phase.objects.CopyPhase.{CopyPhase}
-use Rattle.smc_core.specs.declared.phase.objects.CopyPhase.TheVariants as copy
-use Rattle.smc_core.specs.declared.phase.objects.Finding.{Finding}
-use Rattle.smc_core.specs.declared.phase.objects.Finding.TheVariants.{Absent, Stays, Abandons, Helps}
-use Rattle.smc_core.specs.declared.phase.objects.LookPhase.{LookPhase}
-use Rattle.smc_core.specs.declared.phase.objects.LookPhase.TheVariants as look
 use Rattle.smc_core.specs.declared.phase.objects.RemovePhase.{RemovePhase}
 use Rattle.smc_core.specs.declared.phase.objects.RemovePhase.TheVariants as remove
 use Rattle.smc_core.specs.declared.phase.objects.ScanPhase.{ScanPhase}
 use Rattle.smc_core.specs.declared.phase.objects.ScanPhase.TheVariants as scan
-use Rattle.smc_core.specs.declared.phase.objects.Seeker.{Seeker}
-use Rattle.smc_core.specs.declared.phase.objects.Seeker.TheVariants as seeker
 use Rattle.smc_core.specs.declared.section.TheConstants.{LAST_EPOCH}
 use Rattle.smc_core.specs.declared.word.State.{State}
 use Rattle.smc_core.specs.declared.word.State.TheVariants as state
 use Rattle.smc_core.specs.declared.word.Word.{Word}
 use Rattle.smc_core.specs.declared.word.Word.TheVariants as word
-use Rattle.smc_core.specs.Add.{is_value, has_no_blank, add_offer, add_change, slot_seen, entry_seen, next_slot, next_entry, store_field, refuses}
-use Rattle.smc_core.specs.Begin.{begin_offer, begin_change, begin_counted, begin_counting, blank_field, ends_round, first_walk, is_source, next_source, past_target, source_owner, to_source, to_target, with_move}
-use Rattle.smc_core.specs.Cancel.{cancel_offer, cancel_change, cancel_next, cancel_owner, next_cancelled, unfreeze}
-use Rattle.smc_core.specs.Count.{blocks_for, count_offer, count_next, count_owner, counting, is_valid, survey_change, with_object}
-use Rattle.smc_core.specs.Finish.{finish_offer, finish_change, finish_next, frozen_slot, give_up, is_incoming, lock, move, next_target, target_owner, with_given_up, with_moved}
-use Rattle.smc_core.specs.Look.{copy_offer, copy_field, copy_next, find, find_after_abandon, find_after_swing, finds, help_finding, look_change, look_finding, look_offer, looking_change, passes, seeker_of, sought_number, visits}
+use Rattle.smc_core.specs.Add.{has_no_blank, add_offer, add_change, slot_seen, entry_seen, next_slot, next_entry, store_field, refuses}
+use Rattle.smc_core.specs.Look.{passes}
 use Rattle.smc_core.specs.Remove.{remove_offer, remove_change, mark_seen}
-use Rattle.smc_core.specs.Ripe.{is_ripe, is_ripe_entry, is_ripe_slot, next_round}
+use Rattle.smc_core.specs.Ripe.{is_ripe_entry, is_ripe_slot, next_round}
 use Rattle.smc_core.specs.Scan.{is_scanned, owner_seen, scan_change, scan_offer}
-use Rattle.smc_core.specs.Step.{goes, ends, tells, goes_telling}
-use Rattle.smc_core.specs.Words.{plain_of, dir_of, state_of, back_of, forward_of, has_object, has_object_at, is_gone, same_word}
-use Rattle.smc_inv_range.specs.Ranges.{IsNamed, IsNumberOf, IsSlot, InState, InWord, InOp, InShown}
-use Rattle.smc_inv_range.specs.Calls.{IsRecordOf, InCopy, InSeeker, InLook, InAdd, InRemove, InScan, InCount, AtSource, WithObject, AtTarget, InBegin, AtSlot, InFinish, InCancel, InPhase, IsHeldWithin}
-use Rattle.smc_inv_range.proofs.Memories.{InBack, dir_in, state_in, back_in, forward_in, field_in, slot_entry, either}
-use Rattle.smc_model.specs.declared.event.Cause.TheVariants.{Slots, Entries}
+use Rattle.smc_core.specs.Step.{goes, tells, goes_telling}
+use Rattle.smc_core.specs.Words.{dir_of, state_of, back_of, is_gone, same_word}
+use Rattle.smc_inv_range.specs.Ranges.{IsNamed, IsNumberOf, IsSlot, InState, InOp, InShown}
+use Rattle.smc_inv_range.specs.Calls.{IsRecordOf, InAdd, InRemove, InScan}
+use Rattle.smc_inv_range.proofs.Memories.{InBack, dir_in, state_in, back_in, slot_entry, either}
+use Rattle.smc_model.specs.declared.event.Cause.TheVariants.{Slots}
 use Rattle.smc_model.specs.declared.event.Event.TheVariants as event
-use Rattle.smc_inv_range.proofs.LookLaws.{InHolds, InChange, named_of, passes-in}
+use Rattle.smc_inv_range.proofs.LookLaws.{InChange, passes-in}
 
 -- an add
 value_small : (words : List ℕ) (k : ℕ) → IsTrue (has_no_blank words) → slice_index words k < 2 ^ 64

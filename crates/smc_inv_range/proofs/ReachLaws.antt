@@ -1,5 +1,5 @@
 -- The ranges hold in every state that steps lead to.
-use Rattle.std.proofs.Common.{◌≡◌, ℕ, ◌<◌, Some, List, refl, sym, ap, ◌∙◌, arith}
+use Rattle.std.proofs.Common.{◌≡◌, ℕ, ◌<◌, Some, List, refl, ap, ◌∙◌, arith}
 use Rattle.std.specs.Prelude.{slice_get}
 use Rattle.std.proofs.lemmas.Option.{slice_get_within}
 use Rattle.smc_shape.specs.Layout.{Layout, IsShape}

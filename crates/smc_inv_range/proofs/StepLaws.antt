@@ -1,77 +1,42 @@
 -- Each step of each call stays within the region.
-use Rattle.std.proofs.Common.{◌≡◌, ℕ, ◌+◌, ◌*◌, ◌<◌, ◌≤◌, ◌==◌, ◌||◌, ◌&&◌, zero, suc, Bool, true, false, not, nat_lt, Option, Some, None, List, [], ◌∷◌, length, slice_index, refl, sym, ap, ◌∙◌, subst, arith}
+use Rattle.std.proofs.Common.{◌≡◌, ℕ, ◌+◌, ◌<◌, ◌≤◌, ◌==◌, ◌||◌, ◌&&◌, Bool, true, false, nat_lt, Option, Some, None, List, [], ◌∷◌, length, refl, sym, subst, arith}
 use Rattle.std.specs.Prelude.{◌^◌, IsTrue, IfSome, if◌then◌else◌}
 use Rattle.std.proofs.lemmas.Bool.Decides.{nat_tests}
-use Rattle.std.proofs.lemmas.Bool.{eqb-true, ltb-true}
-use Rattle.smc_words.specs.declared.layout.TheConstants.{BLANK, EPOCHS, INCARNATIONS}
-use Rattle.smc_words.specs.declared.dir.Dir.{Dir}
-use Rattle.smc_words.specs.declared.dir.Dir.TheVariants as dir
+use Rattle.std.proofs.lemmas.Bool.{ltb-true}
 use Rattle.smc_words.specs.declared.number.Number.{Number}
 use Rattle.smc_words.specs.declared.round.RoundWord.{RoundWord}
-use Rattle.smc_words.specs.Dir.{FitsDir}
-use Rattle.smc_shape.specs.Layout.{Layout, IsShape, width_of, slots_of, entries_of}
+use Rattle.smc_shape.specs.Layout.{Layout, IsShape, width_of, entries_of}
 use Rattle.smc_shape.specs.Places.{InRange}
 use Rattle.smc_shape.specs.declared.place.Place.{Place}
 use Rattle.smc_shape.specs.declared.place.Place.TheVariants as place
-use Rattle.smc_model.specs.declared.event.Cause.{Cause}
-use Rattle.smc_core.specs.declared.change.Change.{Change}
 use Rattle.smc_core.specs.declared.done.Done.TheVariants as done
 use Rattle.smc_core.specs.declared.local.Held.{Held}
 use Rattle.smc_core.specs.declared.local.Scan.{Scan}
-use Rattle.smc_core.specs.declared.op.Op.{Op}
-use Rattle.smc_core.specs.declared.op.Op.TheVariants.{Load, Store, Exchange, MarkGone}
+use Rattle.smc_core.specs.declared.op.Op.TheVariants.{Load}
 use Rattle.smc_core.specs.declared.phase.Phase.{Phase}
 use Rattle.smc_core.specs.declared.phase.Phase.TheVariants as phase
-use Rattle.smc_core.specs.declared.phase.moves.BeginPhase.{BeginPhase}
 use Rattle.smc_core.specs.declared.phase.moves.BeginPhase.TheVariants as begin
-use Rattle.smc_core.specs.declared.phase.moves.CancelPhase.{CancelPhase}
 use Rattle.smc_core.specs.declared.phase.moves.CancelPhase.TheVariants as cancel
-use Rattle.smc_core.specs.declared.phase.moves.Count.{Count}
-use Rattle.smc_core.specs.declared.phase.moves.Counting.{Counting}
-use Rattle.smc_core.specs.declared.phase.moves.Counting.TheVariants.{Walks, Counted}
-use Rattle.smc_core.specs.declared.phase.moves.CountPhase.{CountPhase}
 use Rattle.smc_core.specs.declared.phase.moves.CountPhase.TheVariants as walk
-use Rattle.smc_core.specs.declared.phase.moves.FinishPhase.{FinishPhase}
 use Rattle.smc_core.specs.declared.phase.moves.FinishPhase.TheVariants as finish
-use Rattle.smc_core.specs.declared.phase.moves.Targets.{Targets}
-use Rattle.smc_core.specs.declared.phase.moves.Walk.{Walk}
-use Rattle.smc_core.specs.declared.phase.objects.AddPhase.{AddPhase}
-use Rattle.smc_core.specs.declared.phase.objects.AddPhase.TheVariants as add
-use Rattle.smc_core.specs.declared.phase.objects.CopyPhase.{CopyPhase}
-use Rattle.smc_core.specs.declared.phase.objects.CopyPhase.TheVariants as copy
-use Rattle.smc_core.specs.declared.phase.objects.Finding.{Finding}
-use Rattle.smc_core.specs.declared.phase.objects.Finding.TheVariants.{Absent, Stays, Abandons, Helps}
-use Rattle.smc_core.specs.declared.phase.objects.LookPhase.{LookPhase}
 use Rattle.smc_core.specs.declared.phase.objects.LookPhase.TheVariants as look
-use Rattle.smc_core.specs.declared.phase.objects.RemovePhase.{RemovePhase}
-use Rattle.smc_core.specs.declared.phase.objects.RemovePhase.TheVariants as remove
-use Rattle.smc_core.specs.declared.phase.objects.ScanPhase.{ScanPhase}
 use Rattle.smc_core.specs.declared.phase.objects.ScanPhase.TheVariants as scan
-use Rattle.smc_core.specs.declared.phase.objects.Seeker.{Seeker}
 use Rattle.smc_core.specs.declared.phase.objects.Seeker.TheVariants as seeker
 use Rattle.smc_core.specs.declared.section.TheConstants.{LAST_EPOCH}
-use Rattle.smc_core.specs.declared.word.State.{State}
-use Rattle.smc_core.specs.declared.word.State.TheVariants as state
 use Rattle.smc_core.specs.declared.word.Word.{Word}
-use Rattle.smc_core.specs.declared.word.Word.TheVariants as word
-use Rattle.smc_core.specs.Add.{is_value, has_no_blank, add_offer, add_change, slot_seen, entry_seen, next_slot, next_entry, store_field, refuses}
-use Rattle.smc_core.specs.Begin.{begin_offer, begin_change, begin_counted, begin_counting, blank_field, ends_round, first_walk, is_source, next_source, past_target, source_owner, to_source, to_target, with_move}
-use Rattle.smc_core.specs.Cancel.{cancel_offer, cancel_change, cancel_next, cancel_owner, next_cancelled, unfreeze}
-use Rattle.smc_core.specs.Count.{blocks_for, count_offer, count_next, count_owner, counting, is_valid, survey_change, with_object}
-use Rattle.smc_core.specs.Finish.{finish_offer, finish_change, finish_next, frozen_slot, give_up, is_incoming, lock, move, next_target, target_owner, with_given_up, with_moved}
-use Rattle.smc_core.specs.Look.{copy_offer, copy_field, copy_next, find, find_after_abandon, find_after_swing, finds, help_finding, look_change, look_finding, look_offer, looking_change, passes, seeker_of, sought_number, visits}
-use Rattle.smc_core.specs.Remove.{remove_offer, remove_change, mark_seen}
-use Rattle.smc_core.specs.Ripe.{is_ripe, is_ripe_entry, is_ripe_slot, next_round}
-use Rattle.smc_core.specs.Scan.{is_scanned, owner_seen, scan_change, scan_offer}
-use Rattle.smc_core.specs.Step.{goes, ends, tells, goes_telling}
-use Rattle.smc_core.specs.Words.{plain_of, dir_of, state_of, back_of, forward_of, has_object, has_object_at, is_gone, same_word}
-use Rattle.smc_inv_range.specs.Ranges.{IsNamed, IsNumberOf, IsSlot, InState, InWord, InOp, InShown}
-use Rattle.smc_inv_range.specs.Calls.{IsRecordOf, InCopy, InSeeker, InLook, InAdd, InRemove, InScan, InCount, AtSource, WithObject, AtTarget, InBegin, AtSlot, InFinish, InCancel, InPhase, IsHeldWithin}
-use Rattle.std.specs.Prelude.{slice_get, All}
+use Rattle.smc_core.specs.Add.{is_value, has_no_blank}
+use Rattle.smc_core.specs.Count.{counting}
+use Rattle.smc_core.specs.Finish.{finish_offer}
+use Rattle.smc_core.specs.Look.{look_offer}
+use Rattle.smc_core.specs.Scan.{scan_change}
+use Rattle.smc_core.specs.Step.{goes, ends}
+use Rattle.smc_core.specs.Words.{plain_of, dir_of, state_of}
+use Rattle.smc_inv_range.specs.Ranges.{IsNamed, IsSlot, InWord, InOp, InShown}
+use Rattle.smc_inv_range.specs.Calls.{InPhase, IsHeldWithin}
+use Rattle.std.specs.Prelude.{All}
 use Rattle.std.proofs.lemmas.Bool.{eqb-false}
 use Rattle.std.proofs.lemmas.List.Elements.{All-nil, All-cons, All-head, All-tail}
 use Rattle.smc_words.specs.RoundWord.{FitsRound}
-use Rattle.smc_model.specs.declared.event.Event.TheVariants as event
 use Rattle.smc_core.specs.declared.call.Call.{Call}
 use Rattle.smc_core.specs.declared.call.Call.TheVariants as call
 use Rattle.smc_core.specs.declared.call.Choice.{Choice}
@@ -83,27 +48,25 @@ use Rattle.smc_core.specs.declared.op.Offer.{Offer}
 use Rattle.smc_core.specs.declared.section.Section.{Section}
 use Rattle.smc_core.specs.declared.section.Section.TheVariants.{Outside, Loaded, Announced, Again, Lasting, Inside}
 use Rattle.smc_core.specs.Add.{takes}
-use Rattle.smc_core.specs.Begin.{round_offer, round_seen}
-use Rattle.smc_core.specs.Change.{change, go_change, start_change, advance_next, section_seen, ready_seen, remove_started, next_started, finish_owned, cancel_owned, look_started}
+use Rattle.smc_core.specs.Begin.{round_seen}
+use Rattle.smc_core.specs.Change.{change, go_change, advance_next, section_seen, ready_seen, remove_started, next_started, finish_owned, cancel_owned}
 use Rattle.smc_core.specs.Count.{no_count}
 use Rattle.smc_core.specs.Finish.{finish_start, finish_started, first_target, is_early}
-use Rattle.smc_core.specs.Local.{fresh, stand_after, section_after, held_after, round_after, round_begun, words_after}
-use Rattle.smc_core.specs.Offer.{offer, go_offer, start_offer, when_idle, when_inside, when_outside, when_held, when_begun, when_owned, held_slot, look_start}
+use Rattle.smc_core.specs.Local.{section_after, held_after, round_after, round_begun, words_after}
+use Rattle.smc_core.specs.Offer.{offer, go_offer, start_offer, held_slot, look_start}
 use Rattle.smc_core.specs.Machine.{IsOpening, first_word}
-use Rattle.smc_core.specs.Row.{has_place, place_of, OpFits, Suits}
-use Rattle.smc_core.specs.Scan.{scan_of, scan_number, next_offer, next_change, is_over}
-use Rattle.smc_core.specs.Section.{calm_by, epoch_of, is_calm, entering_offer, entering_change, entering_section}
-use Rattle.smc_core.specs.Step.{when, step}
+use Rattle.smc_core.specs.Row.{has_place, OpFits, Suits}
+use Rattle.smc_core.specs.Scan.{scan_of, next_offer, is_over}
+use Rattle.smc_core.specs.Section.{epoch_of, is_calm, entering_offer}
+use Rattle.smc_core.specs.Step.{step}
 use Rattle.smc_core.specs.Words.{round_of, same_number}
-use Rattle.smc_rules.specs.Memory.{Memory, apply, seen}
-use Rattle.smc_rules.specs.Mirror.{anywhere}
+use Rattle.smc_rules.specs.Memory.{seen}
 use Rattle.smc_rules.specs.State as rules
 use Rattle.smc_rules.specs.State.{put_stand, stand_offer, stand_then, state_after, first_state, IsKept}
 use Rattle.smc_rules.proofs.CarryLaws.{by_pass, put_stand-same, put_stand-other}
 use Rattle.smc_rules.proofs.OfferLaws.{if_idle, if_outside, if_inside, if_test, if_held, if_begun, if_owned}
-use Rattle.smc_inv_range.specs.Ranges.{InMemory}
 use Rattle.smc_inv_range.specs.Calls.{InSection, InOwned, InStand, Ranges}
-use Rattle.smc_inv_range.proofs.Memories.{dir_in, epoch_in, state_in, either, apply_in, seen_in, op_fits}
+use Rattle.smc_inv_range.proofs.Memories.{dir_in, epoch_in, either, apply_in, seen_in, op_fits}
 use Rattle.smc_inv_range.proofs.LookLaws.{InHolds, InChange, look_op, looking-in}
 use Rattle.smc_inv_range.proofs.ObjectLaws.{add_op, add-in, slot_seen-in, remove_op, remove-in, mark_seen-in, scan_op, scan-in}
 use Rattle.smc_inv_range.proofs.MoveLaws.{count_op, counting-in, survey-in, begin_op, begin-in, finish_op, finish-in, cancel_op, cancel-in}
@@ -131,11 +94,13 @@ held-in shape (first ∷ later) number slot a is =
         let inc : first.number.incarnation ≡ number.incarnation = grind (arith, nat_tests, t) in
         let ent : first.number.entry ≡ number.entry = grind (arith, nat_tests, t) in
         let col : first.number.coll ≡ number.coll = grind (arith, nat_tests, t) in
-        let at : first.slot ≡ slot = cc in
-        (record {
-          incarnation = omega (arith, inc, h.0.incarnation);
-          entry = subst (λ c. number.entry < entries_of shape c) col (subst (λ n. n < entries_of shape first.number.coll) ent h.0.entry);
-        }, subst (λ s. IsSlot shape number.coll s) at (subst (λ c. IsSlot shape c first.slot) col h.1))
+        let at : first.slot ≡ slot = cc in (
+          record {
+            incarnation = omega (arith, inc, h.0.incarnation);
+            entry = subst (λ c. number.entry < entries_of shape c) col (subst (λ n. n < entries_of shape first.number.coll) ent h.0.entry);
+          },
+          subst (λ s. IsSlot shape number.coll s) at (subst (λ c. IsSlot shape c first.slot) col h.1),
+        )
     go false t e k = k e
 
 held_after-in : (shape : Layout) (held : List Held) (choice : Choice) (holds : Option Held) → All (IsHeldWithin shape) held → InHolds shape holds
@@ -292,8 +257,11 @@ module _ (shape : Layout) (valid : IsShape shape) (pass : ℕ) (within : pass < 
   start section call.Advance s = if_outside (Owes section phase.Idle (Start call.Advance)) section _ (λ e. record {
     op = tt;
     after = λ told w shown. (
-        either (InChange shape stand.words) (plain_of w == LAST_EPOCH) (ends done.Spent) (goes (advance_next shape (plain_of w) 0)) (λ t. (tt, tt))
-        (λ n. (advance_next-in shape stand.words (plain_of w) 0 (omega (arith, epoch_in shape w shown, eqb-false (plain_of w) LAST_EPOCH n)), tt)), s, f.round);
+      either (InChange shape stand.words) (plain_of w == LAST_EPOCH) (ends done.Spent) (goes (advance_next shape (plain_of w) 0)) (λ t. (tt, tt))
+          (λ n. (advance_next-in shape stand.words (plain_of w) 0 (omega (arith, epoch_in shape w shown, eqb-false (plain_of w) LAST_EPOCH n)), tt)),
+      s,
+      f.round,
+    );
   })
   start section (call.Add coll from words) s =
       if_inside (Owes section phase.Idle (Start (call.Add coll from words))) section _ (λ own calm e.
@@ -303,8 +271,12 @@ module _ (shape : Layout) (valid : IsShape shape) (pass : ℕ) (within : pass < 
       let values : IsTrue (has_no_blank words) = grind (arith, nat_tests, t) in
       record {
         op = at;
-        after = λ told w shown. (slot_seen-in shape words valid (epoch_of section) coll from from 0 (dir_of w)
-            (record { width = width; values = values }) at at (dir_in shape coll from w shown), s, f.round);
+        after = λ told w shown. (
+          slot_seen-in shape words valid (epoch_of section) coll from from 0 (dir_of w)
+              (record { width = width; values = values }) at at (dir_in shape coll from w shown),
+          s,
+          f.round,
+        );
       }))
   start section (call.Look number) s = if_inside (Owes section phase.Idle (Start (call.Look number))) section _ (λ own calm e.
       look_started-in section number s)
@@ -328,8 +300,10 @@ module _ (shape : Layout) (valid : IsShape shape) (pass : ℕ) (within : pass < 
       let (named, at) = held-in shape stand.held number slot f.held is in record {
         op = named.entry;
         after = λ told w shown. (
-            subst (λ (held : Option ℕ). InChange shape stand.words (remove_started number held (state_of w))) (sym is) (mark_seen-in shape stand.words number slot (state_of w) named at),
-            s, f.round);
+          subst (λ (held : Option ℕ). InChange shape stand.words (remove_started number held (state_of w))) (sym is) (mark_seen-in shape stand.words number slot (state_of w) named at),
+          s,
+          f.round,
+        );
       }))
   start section (call.Scan coll) s = if_inside (Owes section phase.Idle (Start (call.Scan coll))) section _ (λ own calm e.
       if_test (Owes section phase.Idle (Start (call.Scan coll))) (nat_lt coll (length shape.colls)) _ (λ t. record {
@@ -353,15 +327,21 @@ module _ (shape : Layout) (valid : IsShape shape) (pass : ℕ) (within : pass < 
       let at : IsSlot shape owned.coll 0 = first_slot owned.coll (subst (InOwned shape) is f.round) in record {
         op = at;
         after = λ told w shown. (
-            subst (λ (round : Option Owned). InChange shape stand.words (cancel_owned shape round w)) (sym is)
-            (cancel-in shape stand.words (epoch_of section) (cancel.Directory owned.coll 0) w at shown), s, f.round);
+          subst (λ (round : Option Owned). InChange shape stand.words (cancel_owned shape round w)) (sym is)
+              (cancel-in shape stand.words (epoch_of section) (cancel.Directory owned.coll 0) w at shown),
+          s,
+          f.round,
+        );
       }))
   start section (call.Survey coll) s = if_inside (Owes section phase.Idle (Start (call.Survey coll))) section _ (λ own calm e.
       if_test (Owes section phase.Idle (Start (call.Survey coll))) (nat_lt coll (length shape.colls)) _ (λ t.
       let at : IsSlot shape coll 0 = first_slot coll (ltb-true coll (length shape.colls) t) in record {
         op = at;
         after = λ told w shown. (
-            survey-in shape stand.words (counting shape (walk.Directory coll 0 no_count) w) (counting-in shape (walk.Directory coll 0 no_count) w at shown), s, f.round);
+          survey-in shape stand.words (counting shape (walk.Directory coll 0 no_count) w) (counting-in shape (walk.Directory coll 0 no_count) w at shown),
+          s,
+          f.round,
+        );
       }))
   start section call.Note s = if_outside (Owes section phase.Idle (Start call.Note)) section _ (λ e. record {
     op = tt;

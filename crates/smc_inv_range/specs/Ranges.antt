@@ -1,5 +1,5 @@
 -- What each word of a region keeps: its class, and its parts within the region.
-use Rattle.std.specs.Prelude.{◌≡◌, ℕ, ◌<◌, ◌≤◌, ◌^◌, Option, Some, None}
+use Rattle.std.specs.Prelude.{◌≡◌, ℕ, ◌<◌, ◌≤◌, ◌^◌, Some, None}
 use Rattle.smc_words.specs.declared.layout.TheConstants.{EPOCHS, INCARNATIONS}
 use Rattle.smc_words.specs.declared.number.Number.{Number}
 use Rattle.smc_words.specs.Dir.{FitsDir}
