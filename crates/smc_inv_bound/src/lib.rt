@@ -1,0 +1,7 @@
+//! Every call ends: each step that goes on with one leaves fewer steps, whatever the other passes do.
+//!
+//! `laws` has the theorem, and `specs/Left.antt` says how many steps a call in progress has left at most. It stands on the
+//! machine's definitions alone. A program that goes on with a call until it ends rests on it for its own end.
+#![tactic(auto)]
+
+pub mod laws;
