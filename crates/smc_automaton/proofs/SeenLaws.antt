@@ -147,4 +147,3 @@ HoldsFit (Some pair) = HasIncarnation pair.number
 -- a change leaves the call, with these words of the latest add, in its ranges
 abbrev pub ChangeFits : Layout → List ℕ → Change → Type 0
 ChangeFits shape words change = FitsPhase shape words change.phase × HoldsFit change.holds
-

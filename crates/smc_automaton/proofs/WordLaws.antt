@@ -207,12 +207,15 @@ finish_start-words pass epoch owned = cond_both (is_early epoch owned.bound) _ _
 
 -- the round that a begin opens fits the round word
 round-words : (shape : Layout) (pass epoch coll : ℕ) → IsShape shape → pass < shape.passes → epoch ≤ LAST_EPOCH → coll < length shape.colls → FitsOp (round_offer pass epoch coll).op
-round-words shape pass epoch coll valid known last there = (tt, record {
-  begun = omega arith;
-  bound = omega (arith, last);
-  pass = omega (arith, known, valid.passes);
-  coll = omega (arith, there, valid.colls);
-})
+round-words shape pass epoch coll valid known last there = (
+  tt,
+  record {
+    begun = omega arith;
+    bound = omega (arith, last);
+    pass = omega (arith, known, valid.passes);
+    coll = omega (arith, there, valid.colls);
+  },
+)
 
 module _ (shape : Layout) (pass : ℕ) (stand : Stand) (valid : IsShape shape) (known : pass < shape.passes) where
   start-words : (section : Section) (call : Call) → FitsSection section → OfferFits (start_offer shape pass stand section call)

@@ -4,7 +4,10 @@ ghost use Rattle.smc_core.specs.Local.{section_after, begun_after, noted_after, 
 ghost use Rattle.smc_automaton.specs.Fits.{FitsSection};
 
 use crate::section::{entering_section, epoch_of};
-use smc_core::{BeginPhase, Call, CancelPhase, Choice, FinishPhase, LAST_EPOCH, Owned, Phase, Section, Stand, Word};
+use smc_core::{
+    BeginPhase, Call, CancelPhase, Choice, FinishPhase, LAST_EPOCH, Owned, Phase, Section, Stand,
+    Word,
+};
 use smc_words::RoundWord;
 
 /// Where the step of this choice leaves the section.
@@ -28,7 +31,10 @@ fn round_begun(epoch: u64, coll: u8, seen: Option<RoundWord>, owned: Option<Owne
     ensures { result ≡ round_begun epoch coll seen owned }
 {
     match seen {
-        None => Some(Owned { bound: epoch + 1, coll }),
+        None => Some(Owned {
+            bound: epoch + 1,
+            coll,
+        }),
         Some(_) => owned,
     }
 }

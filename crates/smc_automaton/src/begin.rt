@@ -1,18 +1,21 @@
 //! Beginning a round: it is opened, the objects are counted, and those that stand too high get a target and are frozen.
-ghost use Rattle.std.specs.Prelude.{◌≡◌, ◌<◌, ◌≤◌};
-ghost use Rattle.smc_core.specs.Begin.{round_offer, round_seen, begin_offer, ends_round, to_source, next_source, to_target, past_target, with_move, first_walk, begin_counted, begin_counting, source_owner, blank_field, begin_change};
-ghost use Rattle.smc_core.specs.Step.{step};
+ghost use Rattle.std.specs.Prelude.{◌≡◌, ◌≤◌};
+ghost use Rattle.smc_core.specs.Begin.{round_offer, round_seen, begin_offer, begin_counted, begin_counting, begin_change};
 ghost use Rattle.smc_automaton.specs.Counted.{FewCounted};
 ghost use Rattle.smc_automaton.specs.FitsPhase.{FitsBegin, FitsTarget};
 
-use crate::count::{NO_COUNT, blocks_for, count_offer, counting};
-use crate::seen::{is_ripe_slot, is_source, is_valid};
-use crate::size::{slots_of, width_of};
-use crate::step::{ends, goes, step};
-use smc_core::{
-    BeginPhase, Change, Count, CountPhase, Counting, Done, LAST_EPOCH, Offer, Op, Phase, State, Walk,
-    Word,
+use crate::count::{blocks_for, count_offer, counting, first_count};
+use crate::op::{
+    back, directory, entry_of, exchange, field_of, forward, frozen, limbo_behind, load, present,
+    store,
 };
+use crate::seen::{is_ripe_slot, is_source, is_valid};
+use crate::step::{ends, goes};
+use crate::walk::{
+    blank_field, first_walk, next_source, past_target, source_owner, to_source, to_target,
+    with_move,
+};
+use smc_core::{BeginPhase, Change, Count, Counting, Done, LAST_EPOCH, Offer, Phase, Walk, Word};
 use smc_shape::{BLOCK_SLOTS, Place, Shape};
 use smc_words::{BLANK, Dir, ENTRIES, Number, RoundWord};
 
@@ -21,11 +24,16 @@ pub(crate) fn round_offer(pass: u32, epoch: u64, coll: u8) -> Offer
     requires { epoch ≤ LAST_EPOCH }
     ensures { result ≡ round_offer pass epoch coll }
 {
-    step(26, Op::Exchange {
-        place: Place::Round,
-        expect: Word::Round(None),
-        put: Word::Round(Some(RoundWord { bound: epoch + 1, pass, coll })),
-    })
+    exchange(
+        26,
+        Place::Round,
+        Word::Round(None),
+        Word::Round(Some(RoundWord {
+            bound: epoch + 1,
+            pass,
+            coll,
+        })),
+    )
 }
 
 /// What that step changes: where another round was seen, the call ends as busy.
@@ -33,10 +41,7 @@ pub(crate) fn round_seen(coll: u8, seen: Option<RoundWord>) -> Change
     ensures { result ≡ round_seen coll seen }
 {
     match seen {
-        None => {
-            let first = CountPhase::Directory { coll, slot: 0, count: NO_COUNT };
-            goes(Phase::Begin(BeginPhase::Count(first)))
-        }
+        None => { goes(Phase::Begin(BeginPhase::Count(first_count(coll)))) }
         Some(round) => ends(Done::Busy {
             bound: round.bound,
             pass: round.pass,
@@ -52,151 +57,48 @@ pub(crate) fn begin_offer(epoch: u64, next: BeginPhase) -> Offer
 {
     match next {
         BeginPhase::Count(next) => count_offer(next),
-        BeginPhase::Nothing { .. } => step(36, Op::Store {
-            place: Place::Round,
-            word: Word::Round(None),
-        }),
-        BeginPhase::SourceDirectory(walk) => step(10, Op::Load {
-            place: Place::Directory { coll: walk.coll, slot: walk.source },
-        }),
-        BeginPhase::SourceBack(walk) => step(24, Op::Load {
-            place: Place::Back { coll: walk.coll, slot: walk.source },
-        }),
-        BeginPhase::SourceEntry { number, .. } => step(13, Op::Load {
-            place: Place::Entry { coll: number.coll, entry: number.entry },
-        }),
-        BeginPhase::TargetDirectory { walk, .. } => step(10, Op::Load {
-            place: Place::Directory { coll: walk.coll, slot: walk.target },
-        }),
-        BeginPhase::ClaimTarget { walk, seen, .. } => step(11, Op::Exchange {
-            place: Place::Directory { coll: walk.coll, slot: walk.target },
-            expect: Word::Directory(seen),
-            put: Word::Directory(Dir::Claimed),
-        }),
-        BeginPhase::BlankField { walk, field, .. } => step(16, Op::Store {
-            place: Place::Field { coll: walk.coll, slot: walk.target, field },
-            word: Word::Plain(BLANK),
-        }),
-        BeginPhase::StoreBack { walk, number } => step(15, Op::Store {
-            place: Place::Back { coll: walk.coll, slot: walk.target },
-            word: Word::Back(Some(number)),
-        }),
-        BeginPhase::StoreForward { walk, .. } => step(27, Op::Store {
-            place: Place::Forward { coll: walk.coll, slot: walk.source },
-            word: Word::Forward(walk.target),
-        }),
-        BeginPhase::StoreIncoming { walk, .. } => step(28, Op::Store {
-            place: Place::Directory { coll: walk.coll, slot: walk.target },
-            word: Word::Directory(Dir::Incoming),
-        }),
-        BeginPhase::Freeze { walk, number } => freeze_offer(walk, number),
-        BeginPhase::GiveUp(walk) => step(22, Op::Store {
-            place: Place::Directory { coll: walk.coll, slot: walk.target },
-            word: Word::Directory(Dir::Limbo(epoch + 1)),
-        }),
-    }
-}
-
-/// The step that freezes the object of the source.
-fn freeze_offer(walk: Walk, number: Number) -> Offer
-    ensures { result ≡ step 29 (Op.Exchange (Place.Entry number.coll number.entry)
-        (Word.Entry (State.Present number.incarnation walk.source))
-        (Word.Entry (State.Frozen number.incarnation walk.source))) }
-{
-    step(29, Op::Exchange {
-        place: Place::Entry { coll: number.coll, entry: number.entry },
-        expect: Word::Entry(State::Present {
-            incarnation: number.incarnation,
-            slot: walk.source,
-        }),
-        put: Word::Entry(State::Frozen {
-            incarnation: number.incarnation,
-            slot: walk.source,
-        }),
-    })
-}
-
-/// The call ends with a round.
-fn ends_round(epoch: u64, walk: Walk) -> Change
-    requires { epoch ≤ LAST_EPOCH }
-    ensures { result ≡ ends_round epoch walk }
-{
-    ends(Done::Round {
-        coll: walk.coll,
-        bound: epoch + 1,
-        moves: u64::from(walk.moves),
-    })
-}
-
-/// The walk looks at its source, or, where no slot is left, the call ends.
-fn to_source(shape: &Shape, epoch: u64, walk: Walk) -> Change
-    requires { epoch ≤ LAST_EPOCH }
-    ensures { result ≡ to_source shape.now epoch walk }
-{
-    if walk.source < slots_of(shape, walk.coll) {
-        goes(Phase::Begin(BeginPhase::SourceDirectory(walk)))
-    } else {
-        ends_round(epoch, walk)
-    }
-}
-
-/// It looks at the next source.
-fn next_source(shape: &Shape, epoch: u64, walk: Walk) -> Change
-    requires epoch { epoch ≤ LAST_EPOCH }
-    requires source { walk.source < ENTRIES }
-    ensures { result ≡ next_source shape.now epoch walk }
-{
-    let next = Walk {
-        source: walk.source + 1,
-        ..walk
-    };
-    to_source(shape, epoch, next)
-}
-
-/// It looks at its target for this object, or, where none is left, the call ends.
-fn to_target(epoch: u64, walk: Walk, number: Number) -> Change
-    requires { epoch ≤ LAST_EPOCH }
-    ensures { result ≡ to_target epoch walk number }
-{
-    if walk.target < walk.kept {
-        goes(Phase::Begin(BeginPhase::TargetDirectory { walk, number }))
-    } else {
-        ends_round(epoch, walk)
-    }
-}
-
-/// No slot is looked at twice for a target.
-fn past_target(walk: Walk) -> Walk
-    requires { FitsTarget walk }
-    ensures { result ≡ past_target walk }
-{
-    Walk {
-        target: walk.target + 1,
-        ..walk
-    }
-}
-
-/// One more entry is frozen.
-fn with_move(walk: Walk) -> Walk
-    requires { walk.moves < ENTRIES }
-    ensures { result ≡ with_move walk }
-{
-    Walk {
-        moves: walk.moves + 1,
-        ..walk
-    }
-}
-
-/// The walk over sources begins at the first slot above the kept blocks.
-fn first_walk(coll: u8, kept: u32) -> Walk
-    ensures { result ≡ first_walk coll kept }
-{
-    Walk {
-        coll,
-        source: kept,
-        target: 0,
-        kept,
-        moves: 0,
+        BeginPhase::Nothing { .. } => store(36, Place::Round, Word::Round(None)),
+        BeginPhase::SourceDirectory(walk) => load(10, directory(walk.coll, walk.source)),
+        BeginPhase::SourceBack(walk) => load(24, back(walk.coll, walk.source)),
+        BeginPhase::SourceEntry { number, .. } => load(13, entry_of(number)),
+        BeginPhase::TargetDirectory { walk, .. } => load(10, directory(walk.coll, walk.target)),
+        BeginPhase::ClaimTarget { walk, seen, .. } => exchange(
+            11,
+            directory(walk.coll, walk.target),
+            Word::Directory(seen),
+            Word::Directory(Dir::Claimed),
+        ),
+        BeginPhase::BlankField { walk, field, .. } => store(
+            16,
+            field_of(walk.coll, walk.target, field),
+            Word::Plain(BLANK),
+        ),
+        BeginPhase::StoreBack { walk, number } => store(
+            15,
+            back(walk.coll, walk.target),
+            Word::Back(Some(number)),
+        ),
+        BeginPhase::StoreForward { walk, .. } => store(
+            27,
+            forward(walk.coll, walk.source),
+            Word::Forward(walk.target),
+        ),
+        BeginPhase::StoreIncoming { walk, .. } => store(
+            28,
+            directory(walk.coll, walk.target),
+            Word::Directory(Dir::Incoming),
+        ),
+        BeginPhase::Freeze { walk, number } => exchange(
+            29,
+            entry_of(number),
+            present(number, walk.source),
+            frozen(number, walk.source),
+        ),
+        BeginPhase::GiveUp(walk) => store(
+            22,
+            directory(walk.coll, walk.target),
+            limbo_behind(epoch),
+        ),
     }
 }
 
@@ -223,29 +125,6 @@ fn begin_counting(shape: &Shape, epoch: u64, walked: Counting) -> Change
     match walked {
         Counting::Walks(next) => goes(Phase::Begin(BeginPhase::Count(next))),
         Counting::Counted { coll, count } => begin_counted(shape, epoch, coll, count),
-    }
-}
-
-/// The entry of the source's owner is loaded; a source without one is passed.
-fn source_owner(shape: &Shape, epoch: u64, walk: Walk, owner: Option<Number>) -> Change
-    requires epoch { epoch ≤ LAST_EPOCH }
-    requires source { walk.source < ENTRIES }
-    ensures { result ≡ source_owner shape.now epoch walk owner }
-{
-    match owner {
-        None => next_source(shape, epoch, walk),
-        Some(number) => goes(Phase::Begin(BeginPhase::SourceEntry { walk, number })),
-    }
-}
-
-/// The field of the target is blanked next, or, where it is none, the target gets its owner.
-fn blank_field(shape: &Shape, walk: Walk, number: Number, field: u32) -> BeginPhase
-    ensures { result ≡ blank_field shape.now walk number field }
-{
-    if field < width_of(shape, walk.coll) {
-        BeginPhase::BlankField { walk, number, field }
-    } else {
-        BeginPhase::StoreBack { walk, number }
     }
 }
 
@@ -281,16 +160,22 @@ pub(crate) fn begin_change(shape: &Shape, epoch: u64, next: BeginPhase, seen: Wo
                 to_target(epoch, past_target(walk), number)
             }
         }
-        BeginPhase::ClaimTarget { walk, number, seen: free } => {
+        BeginPhase::ClaimTarget {
+            walk,
+            number,
+            seen: free,
+        } => {
             if seen.same(Word::Directory(free)) {
                 goes(Phase::Begin(blank_field(shape, walk, number, 0)))
             } else {
                 to_target(epoch, past_target(walk), number)
             }
         }
-        BeginPhase::BlankField { walk, number, field } => {
-            goes(Phase::Begin(blank_field(shape, walk, number, field + 1)))
-        }
+        BeginPhase::BlankField {
+            walk,
+            number,
+            field,
+        } => { goes(Phase::Begin(blank_field(shape, walk, number, field + 1))) }
         BeginPhase::StoreBack { walk, number } => {
             goes(Phase::Begin(BeginPhase::StoreForward { walk, number }))
         }
@@ -311,11 +196,7 @@ fn freeze_seen(shape: &Shape, epoch: u64, walk: Walk, number: Number, seen: Word
     requires target { FitsTarget walk }
     ensures { result ≡ begin_change shape.now epoch (BeginPhase.Freeze walk number) seen }
 {
-    let unmarked = State::Present {
-        incarnation: number.incarnation,
-        slot: walk.source,
-    };
-    if seen.same(Word::Entry(unmarked)) {
+    if seen.same(present(number, walk.source)) {
         next_source(shape, epoch, with_move(past_target(walk)))
     } else {
         goes(Phase::Begin(BeginPhase::GiveUp(walk)))

@@ -3,12 +3,13 @@ ghost use Rattle.std.specs.Prelude.{◌≡◌, ◌<◌, ◌≤◌};
 ghost use Rattle.smc_core.specs.Cancel.{cancel_offer, next_cancelled, cancel_owner, unfreeze, cancel_next, cancel_change};
 ghost use Rattle.smc_automaton.specs.FitsPhase.{FitsCancel};
 
+use crate::op::{back, directory, entry_of, exchange, frozen, limbo_behind, load, present, store};
 use crate::seen::{frozen_slot, is_incoming};
 use crate::size::slots_of;
-use crate::step::{ends, goes, step};
-use smc_core::{CancelPhase, Change, Done, LAST_EPOCH, Offer, Op, Phase, State, Word};
+use crate::step::{ends, goes};
+use smc_core::{CancelPhase, Change, Done, LAST_EPOCH, Offer, Phase, Word};
 use smc_shape::{Place, Shape};
-use smc_words::{Dir, ENTRIES, Number};
+use smc_words::{ENTRIES, Number};
 
 /// The step of a cancel, in a section at this epoch.
 pub(crate) fn cancel_offer(epoch: u64, next: CancelPhase) -> Offer
@@ -16,28 +17,17 @@ pub(crate) fn cancel_offer(epoch: u64, next: CancelPhase) -> Offer
     ensures { result ≡ cancel_offer epoch next }
 {
     match next {
-        CancelPhase::Directory { coll, slot } => {
-            step(10, Op::Load { place: Place::Directory { coll, slot } })
-        }
-        CancelPhase::Back { coll, slot } => {
-            step(24, Op::Load { place: Place::Back { coll, slot } })
-        }
-        CancelPhase::Entry { number, .. } => step(13, Op::Load {
-            place: Place::Entry { coll: number.coll, entry: number.entry },
-        }),
-        CancelPhase::Unfreeze { number, source, .. } => step(30, Op::Exchange {
-            place: Place::Entry { coll: number.coll, entry: number.entry },
-            expect: Word::Entry(State::Frozen { incarnation: number.incarnation, slot: source }),
-            put: Word::Entry(State::Present { incarnation: number.incarnation, slot: source }),
-        }),
-        CancelPhase::GiveUp { coll, slot } => step(22, Op::Store {
-            place: Place::Directory { coll, slot },
-            word: Word::Directory(Dir::Limbo(epoch + 1)),
-        }),
-        CancelPhase::End => step(36, Op::Store {
-            place: Place::Round,
-            word: Word::Round(None),
-        }),
+        CancelPhase::Directory { coll, slot } => { load(10, directory(coll, slot)) }
+        CancelPhase::Back { coll, slot } => { load(24, back(coll, slot)) }
+        CancelPhase::Entry { number, .. } => load(13, entry_of(number)),
+        CancelPhase::Unfreeze { number, source, .. } => exchange(
+            30,
+            entry_of(number),
+            frozen(number, source),
+            present(number, source),
+        ),
+        CancelPhase::GiveUp { coll, slot } => store(22, directory(coll, slot), limbo_behind(epoch)),
+        CancelPhase::End => store(36, Place::Round, Word::Round(None)),
     }
 }
 
@@ -47,7 +37,10 @@ fn next_cancelled(shape: &Shape, coll: u8, slot: u32) -> CancelPhase
     ensures { result ≡ next_cancelled shape.now coll slot }
 {
     if slot + 1 < slots_of(shape, coll) {
-        CancelPhase::Directory { coll, slot: slot + 1 }
+        CancelPhase::Directory {
+            coll,
+            slot: slot + 1,
+        }
     } else {
         CancelPhase::End
     }
@@ -69,7 +62,12 @@ fn unfreeze(coll: u8, slot: u32, number: Number, source: Option<u32>) -> CancelP
 {
     match source {
         None => CancelPhase::GiveUp { coll, slot },
-        Some(source) => CancelPhase::Unfreeze { coll, slot, number, source },
+        Some(source) => CancelPhase::Unfreeze {
+            coll,
+            slot,
+            number,
+            source,
+        },
     }
 }
 

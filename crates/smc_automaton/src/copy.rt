@@ -3,10 +3,10 @@ ghost use Rattle.std.specs.Prelude.{◌≡◌};
 ghost use Rattle.smc_core.specs.Look.{copy_offer, copy_field, copy_next};
 ghost use Rattle.smc_automaton.specs.FitsPhase.{FitsCopy};
 
+use crate::op::{entry_of, exchange, field_of, forward, load, locked, present};
 use crate::size::width_of;
-use crate::step::step;
-use smc_core::{CopyPhase, Offer, Op, State, Word};
-use smc_shape::{Place, Shape};
+use smc_core::{CopyPhase, Offer, Word};
+use smc_shape::Shape;
 use smc_words::{BLANK, Number};
 
 /// The step of copying an object from this slot.
@@ -15,28 +15,24 @@ pub(crate) fn copy_offer(number: Number, source: u32, next: CopyPhase) -> Offer
 {
     let coll = number.coll;
     match next {
-        CopyPhase::Target => step(32, Op::Load {
-            place: Place::Forward { coll, slot: source },
-        }),
-        CopyPhase::Load { field, .. } => step(19, Op::Load {
-            place: Place::Field { coll, slot: source, field },
-        }),
-        CopyPhase::Put { target, field, value } => step(33, Op::Exchange {
-            place: Place::Field { coll, slot: target, field },
-            expect: Word::Plain(BLANK),
-            put: Word::Plain(value),
-        }),
-        CopyPhase::Swing { target } => step(34, Op::Exchange {
-            place: Place::Entry { coll, entry: number.entry },
-            expect: Word::Entry(State::Locked {
-                incarnation: number.incarnation,
-                slot: source,
-            }),
-            put: Word::Entry(State::Present {
-                incarnation: number.incarnation,
-                slot: target,
-            }),
-        }),
+        CopyPhase::Target => load(32, forward(coll, source)),
+        CopyPhase::Load { field, .. } => load(19, field_of(coll, source, field)),
+        CopyPhase::Put {
+            target,
+            field,
+            value,
+        } => exchange(
+            33,
+            field_of(coll, target, field),
+            Word::Plain(BLANK),
+            Word::Plain(value),
+        ),
+        CopyPhase::Swing { target } => exchange(
+            34,
+            entry_of(number),
+            locked(number, source),
+            present(number, target),
+        ),
     }
 }
 

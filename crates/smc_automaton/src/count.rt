@@ -1,22 +1,35 @@
 //! The walk that counts the objects of a collection, and the blocks that they lie in.
 ghost use Rattle.std.specs.Prelude.{◌≡◌, ◌≤◌, ◌<◌, ◌+◌};
-ghost use Rattle.smc_core.specs.Count.{block_of, blocks_for, with_object, count_offer, count_next, count_owner, counting, survey_change};
+ghost use Rattle.smc_core.specs.Count.{no_count, block_of, blocks_for, with_object, count_offer, count_next, count_owner, counting, survey_change};
 ghost use Rattle.smc_automaton.specs.FitsPhase.{FitsCount, FitsCounting};
 ghost use Rattle.smc_automaton.specs.Counted.{FewCounted};
 
+use crate::op::{back, directory, entry_of, load};
 use crate::seen::{has_object_at, is_valid};
 use crate::size::slots_of;
-use crate::step::{ends, goes, step};
-use smc_core::{Change, Count, CountPhase, Counting, Done, Offer, Op, Phase, Word};
-use smc_shape::{BLOCK_SLOTS, Place, Shape};
+use crate::step::{ends, goes};
+use smc_core::{Change, Count, CountPhase, Counting, Done, Offer, Phase, Word};
+use smc_shape::{BLOCK_SLOTS, Shape};
 use smc_words::{ENTRIES, Number};
 
 /// Nothing is counted yet.
-pub(crate) const NO_COUNT: Count = Count {
+const NO_COUNT: Count = Count {
     objects: 0,
     blocks: 0,
     next: 0,
 };
+
+/// The walk begins at the first slot.
+pub(crate) fn first_count(coll: u8) -> CountPhase
+    ensures is { result ≡ CountPhase.Directory coll 0 no_count }
+    ensures fits { FitsCounting result }
+{
+    CountPhase::Directory {
+        coll,
+        slot: 0,
+        count: NO_COUNT,
+    }
+}
 
 /// The block of a slot.
 fn block_of(slot: u32) -> u32
@@ -56,15 +69,9 @@ pub(crate) fn count_offer(next: CountPhase) -> Offer
     ensures { result ≡ count_offer next }
 {
     match next {
-        CountPhase::Directory { coll, slot, .. } => {
-            step(10, Op::Load { place: Place::Directory { coll, slot } })
-        }
-        CountPhase::Back { coll, slot, .. } => {
-            step(24, Op::Load { place: Place::Back { coll, slot } })
-        }
-        CountPhase::Entry { number, .. } => step(13, Op::Load {
-            place: Place::Entry { coll: number.coll, entry: number.entry },
-        }),
+        CountPhase::Directory { coll, slot, .. } => { load(10, directory(coll, slot)) }
+        CountPhase::Back { coll, slot, .. } => { load(24, back(coll, slot)) }
+        CountPhase::Entry { number, .. } => load(13, entry_of(number)),
     }
 }
 
@@ -121,7 +128,12 @@ pub(crate) fn counting(shape: &Shape, next: CountPhase, seen: Word) -> Counting
         CountPhase::Back { coll, slot, count } => {
             count_owner(shape, coll, slot, count, seen.back())
         }
-        CountPhase::Entry { coll, slot, count, number } => {
+        CountPhase::Entry {
+            coll,
+            slot,
+            count,
+            number,
+        } => {
             let count = if has_object_at(number.incarnation, slot, seen.state()) {
                 with_object(slot, count)
             } else {

@@ -6,8 +6,9 @@ ghost use Rattle.smc_automaton.specs.Effects.{scans_by, cursors_by};
 ghost use Rattle.smc_automaton.specs.Fits.{FitsStand};
 ghost use Rattle.smc_automaton.specs.FitsPhase.{FitsScan, FitsSeeker};
 
-use crate::add::next_round;
-use crate::look::{look_finding, seeker_of};
+use crate::claim::next_round;
+use crate::find::look_finding;
+use crate::look::seeker_of;
 use crate::scan::{is_over, new_scan, scan_number, scan_of};
 use crate::seen::is_scanned;
 use crate::size::slots_of;
@@ -22,14 +23,9 @@ pub enum ScanEffect {
     /// This one has begun, and stands behind the others.
     Begin(Scan),
     /// The scan with this number has passed the slots below `place`.
-    Pass {
-        scan: u64,
-        place: u32,
-    },
+    Pass { scan: u64, place: u32 },
     /// The scan with this number has ended.
-    End {
-        scan: u64,
-    },
+    End { scan: u64 },
     /// The section has ended, and its scans with it.
     Clear,
 }
@@ -51,11 +47,17 @@ fn scan_step_effect(next: ScanPhase, seen: Word) -> ScanEffect
             if is_scanned(seen.dir()) {
                 ScanEffect::Stay
             } else {
-                ScanEffect::Pass { scan, place: slot + 1 }
+                ScanEffect::Pass {
+                    scan,
+                    place: slot + 1,
+                }
             }
         }
         ScanPhase::Back { scan, slot, .. } => match seen.back() {
-            None => ScanEffect::Pass { scan, place: slot + 1 },
+            None => ScanEffect::Pass {
+                scan,
+                place: slot + 1,
+            },
             Some(_) => ScanEffect::Stay,
         },
         ScanPhase::End { scan } => ScanEffect::End { scan },
@@ -70,7 +72,10 @@ fn look_effect(seeker: Seeker, found: Finding) -> ScanEffect
     match seeker {
         Seeker::Caller => ScanEffect::Stay,
         Seeker::Scan { scan, slot, .. } => match found {
-            Finding::Absent | Finding::Stays { .. } => ScanEffect::Pass { scan, place: slot + 1 },
+            Finding::Absent | Finding::Stays { .. } => ScanEffect::Pass {
+                scan,
+                place: slot + 1,
+            },
             Finding::Abandons { .. } | Finding::Helps { .. } => ScanEffect::Stay,
         },
     }
@@ -100,7 +105,13 @@ fn next_effect(shape: &Shape, begun: Option<Scan>, seen: Word) -> ScanEffect
 }
 
 /// What the step of this choice makes of the section's scans.
-pub fn scan_effect(shape: &Shape, pass: u32, stand: &Stand, choice: &Choice, seen: Word) -> ScanEffect
+pub fn scan_effect(
+    shape: &Shape,
+    pass: u32,
+    stand: &Stand,
+    choice: &Choice,
+    seen: Word,
+) -> ScanEffect
     requires fits { FitsStand shape.now stand.now }
     ensures { scans_by result stand.now.scans ≡
         scans_after shape.now pass stand.now stand.now.section stand.now.phase choice.now seen }

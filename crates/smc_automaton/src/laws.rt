@@ -26,7 +26,7 @@ pub fn steps_keep_stands()
         → IsShape shape → FitsStand shape stand
         → offer shape pass stand stand.section stand.phase choice ≡ Some offered → FitsSeen offered.op seen
         → FitsStand shape (stand_after shape pass stand choice seen
-            (change shape pass stand stand.section stand.phase choice told seen)) }
+        (change shape pass stand stand.section stand.phase choice told seen)) }
 {}
 
 /// What an offered step stores, puts or expects fits its place.

@@ -9,12 +9,12 @@ use crate::cancel::cancel_offer;
 use crate::count::count_offer;
 use crate::finish::finish_offer;
 use crate::look::look_offer;
+use crate::op::{exchange, load, section_of};
 use crate::remove::remove_offer;
 use crate::scan::scan_offer;
 use crate::section::{entering_offer, epoch_of};
 use crate::start::start_offer;
-use crate::step::step;
-use smc_core::{Choice, Offer, Op, Phase, Stand, Word};
+use smc_core::{Choice, Offer, Phase, Stand, Word};
 use smc_shape::{Place, Shape};
 
 /// The step that goes on with the call in progress.
@@ -26,14 +26,13 @@ fn go_offer(shape: &Shape, pass: u32, stand: &Stand) -> Option<Offer>
     Some(match stand.phase {
         Phase::Idle => return None,
         Phase::Entering => return entering_offer(pass, section),
-        Phase::Advancing { pass: other, .. } => {
-            step(8, Op::Load { place: Place::Section { pass: other } })
-        }
-        Phase::Ready { epoch } => step(9, Op::Exchange {
-            place: Place::Epoch,
-            expect: Word::Plain(epoch),
-            put: Word::Plain(epoch + 1),
-        }),
+        Phase::Advancing { pass: other, .. } => { load(8, section_of(other)) }
+        Phase::Ready { epoch } => exchange(
+            9,
+            Place::Epoch,
+            Word::Plain(epoch),
+            Word::Plain(epoch + 1),
+        ),
         Phase::Look(next) => look_offer(next),
         Phase::Add(next) => add_offer(shape, &stand.words, next),
         Phase::Remove(next) => remove_offer(epoch_of(section), next),

@@ -2,12 +2,12 @@
 ghost use Rattle.std.specs.Prelude.{◌≡◌, ◌≤◌};
 ghost use Rattle.smc_core.specs.Remove.{remove_offer, mark_seen, remove_change};
 
+use crate::op::{directory, entry_of, limbo_behind, store};
 use crate::seen::is_gone;
-use crate::step::{ends, goes, goes_telling, step, tells};
-use smc_core::{Change, Done, LAST_EPOCH, Offer, Op, Phase, RemovePhase, State, Word};
+use crate::step::{ends, goes, goes_telling, tells};
+use smc_core::{Change, Done, LAST_EPOCH, Offer, Phase, RemovePhase, State, Word};
 use smc_model::Event;
-use smc_shape::Place;
-use smc_words::{Dir, Number};
+use smc_words::Number;
 
 /// The step of a first remove, in a section at this epoch: what it leaves has the stamp one above.
 pub(crate) fn remove_offer(epoch: u64, next: RemovePhase) -> Offer
@@ -15,17 +15,19 @@ pub(crate) fn remove_offer(epoch: u64, next: RemovePhase) -> Offer
     ensures { result ≡ remove_offer epoch next }
 {
     match next {
-        RemovePhase::LeaveSlot { slot, number } => step(22, Op::Store {
-            place: Place::Directory { coll: number.coll, slot },
-            word: Word::Directory(Dir::Limbo(epoch + 1)),
-        }),
-        RemovePhase::FreeEntry { number } => step(23, Op::Store {
-            place: Place::Entry { coll: number.coll, entry: number.entry },
-            word: Word::Entry(State::Free {
+        RemovePhase::LeaveSlot { slot, number } => store(
+            22,
+            directory(number.coll, slot),
+            limbo_behind(epoch),
+        ),
+        RemovePhase::FreeEntry { number } => store(
+            23,
+            entry_of(number),
+            Word::Entry(State::Free {
                 incarnation: number.incarnation,
                 stamp: epoch + 1,
             }),
-        }),
+        ),
     }
 }
 
@@ -34,10 +36,19 @@ pub(crate) fn mark_seen(number: Number, slot: u32, seen: State) -> Change
     ensures { result ≡ mark_seen number slot seen }
 {
     if is_gone(seen) {
-        tells(Event::Remove { number, first: false }, Done::Late)
+        tells(
+            Event::Remove {
+                number,
+                first: false,
+            },
+            Done::Late,
+        )
     } else {
         goes_telling(
-            Event::Remove { number, first: true },
+            Event::Remove {
+                number,
+                first: true,
+            },
             Phase::Remove(RemovePhase::LeaveSlot { slot, number }),
         )
     }

@@ -4,12 +4,13 @@ ghost use Rattle.smc_core.specs.Scan.{scan_number, new_scan, scan_of, is_over, s
 ghost use Rattle.smc_automaton.specs.FitsPhase.{FitsScan};
 
 use crate::look::passes;
+use crate::op::{back, directory, load, section_of};
 use crate::seen::is_scanned;
 use crate::size::slots_of;
-use crate::step::{ends, goes, step, tells};
-use smc_core::{Change, Done, LookPhase, Offer, Op, Phase, Scan, ScanPhase, Seeker, Word};
+use crate::step::{ends, goes, tells};
+use smc_core::{Change, Done, LookPhase, Offer, Phase, Scan, ScanPhase, Seeker, Word};
 use smc_model::Event;
-use smc_shape::{Place, Shape};
+use smc_shape::Shape;
 use smc_words::{ENTRIES, Number, PASSES};
 use std::collections::LinkedList;
 
@@ -57,13 +58,9 @@ pub(crate) fn scan_offer(pass: u32, next: ScanPhase) -> Offer
     ensures { result ≡ scan_offer pass next }
 {
     match next {
-        ScanPhase::Directory { coll, slot, .. } => {
-            step(10, Op::Load { place: Place::Directory { coll, slot } })
-        }
-        ScanPhase::Back { coll, slot, .. } => {
-            step(24, Op::Load { place: Place::Back { coll, slot } })
-        }
-        ScanPhase::End { .. } => step(8, Op::Load { place: Place::Section { pass } }),
+        ScanPhase::Directory { coll, slot, .. } => { load(10, directory(coll, slot)) }
+        ScanPhase::Back { coll, slot, .. } => { load(24, back(coll, slot)) }
+        ScanPhase::End { .. } => load(8, section_of(pass)),
     }
 }
 
@@ -104,11 +101,9 @@ pub(crate) fn next_offer(shape: &Shape, pass: u32, begun: Scan) -> Offer
     ensures { result ≡ next_offer shape.now pass begun }
 {
     if is_over(shape, begun) {
-        step(8, Op::Load { place: Place::Section { pass } })
+        load(8, section_of(pass))
     } else {
-        step(10, Op::Load {
-            place: Place::Directory { coll: begun.coll, slot: begun.place },
-        })
+        load(10, directory(begun.coll, begun.place))
     }
 }
 

@@ -3,8 +3,9 @@ ghost use Rattle.std.specs.Prelude.{◌≡◌, ◌≤◌};
 ghost use Rattle.smc_core.specs.Section.{epoch_of, calm_by, entering_offer, entering_section, entering_change};
 ghost use Rattle.smc_automaton.specs.Fits.{FitsSection};
 
-use crate::step::{goes, step, tells};
-use smc_core::{Change, Done, LAST_EPOCH, Offer, Op, Phase, Section, Word};
+use crate::op::{load, section_of, store};
+use crate::step::{goes, tells};
+use smc_core::{Change, Done, LAST_EPOCH, Offer, Phase, Section, Word};
 use smc_model::Event;
 use smc_shape::Place;
 use smc_words::RoundWord;
@@ -39,21 +40,11 @@ pub(crate) fn entering_offer(pass: u32, section: Section) -> Option<Offer>
     ensures { result ≡ entering_offer pass section }
 {
     match section {
-        Section::Loaded { seen } => Some(step(2, announce(pass, seen))),
-        Section::Announced { .. } => Some(step(3, Op::Load { place: Place::Epoch })),
-        Section::Again { epoch, .. } => Some(step(4, announce(pass, epoch))),
-        Section::Lasting { .. } => Some(step(5, Op::Load { place: Place::Round })),
+        Section::Loaded { seen } => Some(store(2, section_of(pass), Word::Plain(seen))),
+        Section::Announced { .. } => Some(load(3, Place::Epoch)),
+        Section::Again { epoch, .. } => Some(store(4, section_of(pass), Word::Plain(epoch))),
+        Section::Lasting { .. } => Some(load(5, Place::Round)),
         Section::Outside | Section::Inside { .. } => None,
-    }
-}
-
-/// The store of an epoch as the one that the pass announces.
-fn announce(pass: u32, epoch: u64) -> Op
-    ensures { result ≡ Op.Store (Place.Section pass) (Word.Plain epoch) }
-{
-    Op::Store {
-        place: Place::Section { pass },
-        word: Word::Plain(epoch),
     }
 }
 

@@ -82,9 +82,18 @@ pub(crate) fn has_object(incarnation: u32, seen: State) -> bool
     ensures { result ≡ has_object incarnation seen }
 {
     match seen {
-        State::Present { incarnation: other, .. }
-        | State::Frozen { incarnation: other, .. }
-        | State::Locked { incarnation: other, .. } => other == incarnation,
+        State::Present {
+            incarnation: other,
+            ..
+        }
+        | State::Frozen {
+            incarnation: other,
+            ..
+        }
+        | State::Locked {
+            incarnation: other,
+            ..
+        } => other == incarnation,
         State::Free { .. } | State::Claimed { .. } | State::Removed { .. } => false,
     }
 }
@@ -94,9 +103,18 @@ pub(crate) fn has_object_at(incarnation: u32, slot: u32, seen: State) -> bool
     ensures { result ≡ has_object_at incarnation slot seen }
 {
     match seen {
-        State::Present { incarnation: other, slot: there }
-        | State::Frozen { incarnation: other, slot: there }
-        | State::Locked { incarnation: other, slot: there } => other == incarnation && there == slot,
+        State::Present {
+            incarnation: other,
+            slot: there,
+        }
+        | State::Frozen {
+            incarnation: other,
+            slot: there,
+        }
+        | State::Locked {
+            incarnation: other,
+            slot: there,
+        } => other == incarnation && there == slot,
         State::Free { .. } | State::Claimed { .. } | State::Removed { .. } => false,
     }
 }
@@ -106,9 +124,10 @@ pub(crate) fn is_source(number: Number, slot: u32, seen: State) -> bool
     ensures { result ≡ is_source number slot seen }
 {
     match seen {
-        State::Present { incarnation, slot: there } => {
-            incarnation == number.incarnation && there == slot
-        }
+        State::Present {
+            incarnation,
+            slot: there,
+        } => { incarnation == number.incarnation && there == slot }
         State::Free { .. }
         | State::Claimed { .. }
         | State::Frozen { .. }

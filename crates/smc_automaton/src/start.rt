@@ -1,66 +1,28 @@
 //! The first step of each call, where the call may be made.
 ghost use Rattle.std.specs.Prelude.{◌≡◌, ◌≤◌, ◌==◌, ◌&&◌, nat_lt, not};
 ghost use Rattle.smc_shape.specs.Layout.{width_of};
-ghost use Rattle.smc_core.specs.Add.{has_no_blank, takes};
 ghost use Rattle.smc_core.specs.Cancel.{cancel_offer};
 ghost use Rattle.smc_core.specs.Finish.{finish_start};
-ghost use Rattle.smc_core.specs.Offer.{when_outside, when_inside, when_held, when_begun, when_owned, held_slot, look_start, start_offer};
+ghost use Rattle.smc_core.specs.Offer.{when_outside, when_inside, when_held, when_begun, when_owned, look_start, start_offer};
 ghost use Rattle.smc_core.specs.Scan.{next_offer};
 ghost use Rattle.smc_core.specs.Step.{step, when};
 ghost use Rattle.smc_automaton.specs.Fits.{FitsOwned, FitsStand};
 
+use crate::ask::{held_slot, takes};
 use crate::begin::round_offer;
 use crate::cancel::cancel_offer;
-use crate::count::{NO_COUNT, count_offer};
+use crate::count::{count_offer, first_count};
 use crate::finish::finish_start;
 use crate::look::look_offer;
+use crate::op::{directory, field_of, load, mark_gone, section_of, store};
 use crate::scan::{next_offer, scan_of};
 use crate::section::epoch_of;
-use crate::seen::same_number;
-use crate::size::{has_coll, has_entry, slots_of, width_of};
-use crate::step::step;
+use crate::size::{has_coll, has_entry, width_of};
 use smc_core::{
-    Call, CancelPhase, CountPhase, Held, LAST_EPOCH, LookPhase, Offer, Op, Owned, Scan, Section,
-    Seeker, Stand, Word,
+    Call, CancelPhase, LAST_EPOCH, LookPhase, Offer, Op, Owned, Scan, Section, Seeker, Stand, Word,
 };
-use smc_model::Record;
 use smc_shape::{Place, Shape};
 use smc_words::{BLANK, Number};
-use std::collections::LinkedList;
-
-/// No word of the record is blank.
-fn has_no_blank(words: &[u64]) -> bool
-    ensures { result ≡ has_no_blank words.now }
-{
-    for word in words {
-        if *word == BLANK {
-            return false;
-        }
-    }
-    true
-}
-
-/// Whether the collection takes such words, sought from this index on.
-fn takes(shape: &Shape, coll: u8, from: u32, words: &Record) -> bool
-    ensures { result ≡ takes shape.now coll from words.now }
-{
-    has_coll(shape, coll)
-        && from < slots_of(shape, coll)
-        && words.len() == width_of(shape, coll) as usize
-        && has_no_blank(words.words())
-}
-
-/// The slot in which a section holds an object, if it does.
-pub(crate) fn held_slot(held: &LinkedList<Held>, number: Number) -> Option<u32>
-    ensures { result ≡ held_slot held.now number }
-{
-    for pair in held {
-        if same_number(pair.number, number) {
-            return Some(pair.slot);
-        }
-    }
-    None
-}
 
 /// It is offered outside a section.
 fn when_outside(section: Section, offer: Offer) -> Option<Offer>
@@ -102,7 +64,10 @@ fn look_start(shape: &Shape, pass: u32, number: Number) -> Offer
     ensures { result ≡ look_start shape.now pass number }
 {
     if has_entry(shape, number) {
-        look_offer(LookPhase::Load { seeker: Seeker::Caller, number })
+        look_offer(LookPhase::Load {
+            seeker: Seeker::Caller,
+            number,
+        })
     } else {
         own_word(pass)
     }
@@ -112,7 +77,7 @@ fn look_start(shape: &Shape, pass: u32, number: Number) -> Offer
 fn own_word(pass: u32) -> Offer
     ensures { result ≡ step 8 (Op.Load (Place.Section pass)) }
 {
-    step(8, Op::Load { place: Place::Section { pass } })
+    load(8, section_of(pass))
 }
 
 /// The load of a field of a held object.
@@ -124,13 +89,19 @@ fn read_start(shape: &Shape, held: Option<u32>, number: Number, field: u32) -> O
         None => None,
         Some(slot) => when(
             field < width_of(shape, number.coll),
-            step(19, Op::Load { place: Place::Field { coll: number.coll, slot, field } }),
+            load(19, field_of(number.coll, slot, field)),
         ),
     }
 }
 
 /// The store of a field of a held object. No field is blank.
-fn write_start(shape: &Shape, held: Option<u32>, number: Number, field: u32, value: u64) -> Option<Offer>
+fn write_start(
+    shape: &Shape,
+    held: Option<u32>,
+    number: Number,
+    field: u32,
+    value: u64,
+) -> Option<Offer>
     ensures { result ≡ when_held held (λ slot. when (nat_lt field (width_of shape.now number.coll) && not (value == BLANK))
         (step 20 (Op.Store (Place.Field number.coll slot field) (Word.Plain value)))) }
 {
@@ -138,10 +109,7 @@ fn write_start(shape: &Shape, held: Option<u32>, number: Number, field: u32, val
         None => None,
         Some(slot) => when(
             field < width_of(shape, number.coll) && value != BLANK,
-            step(20, Op::Store {
-                place: Place::Field { coll: number.coll, slot, field },
-                word: Word::Plain(value),
-            }),
+            store(20, field_of(number.coll, slot, field), Word::Plain(value)),
         ),
     }
 }
@@ -152,7 +120,7 @@ fn remove_start(held: Option<u32>, number: Number) -> Option<Offer>
 {
     match held {
         None => None,
-        Some(_) => Some(step(21, Op::MarkGone { coll: number.coll, entry: number.entry })),
+        Some(_) => Some(mark_gone(21, number)),
     }
 }
 
@@ -186,7 +154,10 @@ fn cancel_begun(epoch: u64, owned: Option<Owned>) -> Option<Offer>
     match owned {
         None => None,
         Some(round) => {
-            let first = CancelPhase::Directory { coll: round.coll, slot: 0 };
+            let first = CancelPhase::Directory {
+                coll: round.coll,
+                slot: 0,
+            };
             Some(cancel_offer(epoch, first))
         }
     }
@@ -196,7 +167,7 @@ fn cancel_begun(epoch: u64, owned: Option<Owned>) -> Option<Offer>
 fn load_epoch(kind: u32) -> Offer
     ensures { result ≡ step kind (Op.Load Place.Epoch) }
 {
-    step(kind, Op::Load { place: Place::Epoch })
+    load(kind, Place::Epoch)
 }
 
 /// The first step of a call, where the call may be made.
@@ -210,33 +181,40 @@ pub(crate) fn start_offer(shape: &Shape, pass: u32, stand: &Stand, call: &Call) 
             return when_outside(section, load_epoch(1));
         }
         Call::Advance => return when_outside(section, load_epoch(7)),
-        Call::Leave => Some(step(6, Op::Store {
-            place: Place::Section { pass },
-            word: Word::Plain(0),
-        })),
+        Call::Leave => Some(store(6, section_of(pass), Word::Plain(0))),
         Call::Add { coll, from, words } => when(
             takes(shape, *coll, *from, words),
-            step(10, Op::Load { place: Place::Directory { coll: *coll, slot: *from } }),
+            load(10, directory(*coll, *from)),
         ),
         Call::Look { number } => Some(look_start(shape, pass, *number)),
         Call::Read { number, field } => {
             read_start(shape, held_slot(&stand.held, *number), *number, *field)
         }
-        Call::Write { number, field, value } => {
-            write_start(shape, held_slot(&stand.held, *number), *number, *field, *value)
+        Call::Write {
+            number,
+            field,
+            value,
+        } => {
+            write_start(
+                shape,
+                held_slot(&stand.held, *number),
+                *number,
+                *field,
+                *value,
+            )
         }
         Call::Remove { number } => remove_start(held_slot(&stand.held, *number), *number),
         Call::Scan { coll } => when(has_coll(shape, *coll), own_word(pass)),
         Call::Next { scan } => next_start(shape, pass, scan_of(&stand.scans, *scan)),
         Call::Begin { coll } => {
-            when(has_coll(shape, *coll), round_offer(pass, epoch_of(section), *coll))
+            when(
+                has_coll(shape, *coll),
+                round_offer(pass, epoch_of(section), *coll),
+            )
         }
         Call::Finish => finish_begun(pass, epoch_of(section), stand.round),
         Call::Cancel => cancel_begun(epoch_of(section), stand.round),
-        Call::Survey { coll } => {
-            let first = CountPhase::Directory { coll: *coll, slot: 0, count: NO_COUNT };
-            when(has_coll(shape, *coll), count_offer(first))
-        }
+        Call::Survey { coll } => { when(has_coll(shape, *coll), count_offer(first_count(*coll))) }
     };
     when_inside(section, offer)
 }

@@ -1,16 +1,9 @@
-//! The parts of a step.
+//! What a step changes in its pass, by how the call goes on.
 ghost use Rattle.std.specs.Prelude.{◌≡◌};
-ghost use Rattle.smc_core.specs.Step.{step, goes, goes_telling, ends, tells};
+ghost use Rattle.smc_core.specs.Step.{goes, goes_telling, ends, tells};
 
-use smc_core::{Change, Done, Offer, Op, Phase};
+use smc_core::{Change, Done, Phase};
 use smc_model::Event;
-
-/// A step of this kind.
-pub(crate) fn step(kind: u32, op: Op) -> Offer
-    ensures { result ≡ step kind op }
-{
-    Offer { kind, op }
-}
 
 /// The call goes on, in this phase.
 pub(crate) fn goes(phase: Phase) -> Change

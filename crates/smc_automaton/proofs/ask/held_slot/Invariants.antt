@@ -1,6 +1,6 @@
 use Rattle.std.proofs.Common.{◌≡◌}
 use Rattle.smc_core.specs.Offer.{held_slot}
-use Rattle.smc_automaton.proofs.start.held_slot.Given as goal
+use Rattle.smc_automaton.proofs.ask.held_slot.Given as goal
 
 -- those that were passed are other objects
 abbrev pub invariant-loop-pair : goal.invariant-loop-pair
