@@ -21,7 +21,7 @@ pub(crate) fn add_offer(shape: &Shape, words: &Record, next: AddPhase) -> Offer
     ensures { result ≡ add_offer words.now next }
 {
     match next {
-        AddPhase::FindSlot { coll, slot, .. } => { load(10, directory(coll, slot)) }
+        AddPhase::FindSlot { coll, slot, .. } => load(10, directory(coll, slot)),
         AddPhase::ClaimSlot {
             coll,
             slot,
@@ -38,7 +38,7 @@ pub(crate) fn add_offer(shape: &Shape, words: &Record, next: AddPhase) -> Offer
             directory(coll, slot),
             Word::Directory(Dir::Free),
         ),
-        AddPhase::FindEntry { coll, entry, .. } => { load(13, entry_at(coll, entry)) }
+        AddPhase::FindEntry { coll, entry, .. } => load(13, entry_at(coll, entry)),
         AddPhase::ClaimEntry {
             coll,
             entry,
@@ -125,7 +125,7 @@ pub(crate) fn add_change(
             from,
             slot,
             tried,
-        } => { slot_seen(shape, epoch, coll, from, slot, tried, seen.dir()) }
+        } => slot_seen(shape, epoch, coll, from, slot, tried, seen.dir()),
         AddPhase::ClaimSlot {
             coll,
             from,
@@ -150,7 +150,7 @@ pub(crate) fn add_change(
             slot,
             entry,
             tried,
-        } => { entry_seen(shape, epoch, coll, slot, entry, tried, seen.state()) }
+        } => entry_seen(shape, epoch, coll, slot, entry, tried, seen.state()),
         AddPhase::ClaimEntry {
             coll,
             slot,
@@ -177,7 +177,7 @@ pub(crate) fn add_change(
             slot,
             number,
             field,
-        } => { goes(Phase::Add(store_field(shape, slot, number, field + 1))) }
+        } => goes(Phase::Add(store_field(shape, slot, number, field + 1))),
         AddPhase::StoreValid { slot, number } => {
             goes(Phase::Add(AddPhase::StoreLive { slot, number }))
         }

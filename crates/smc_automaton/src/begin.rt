@@ -6,7 +6,7 @@ ghost use Rattle.smc_automaton.specs.FitsPhase.{FitsBegin, FitsTarget};
 
 use crate::count::{blocks_for, count_offer, counting, first_count};
 use crate::op::{
-    back, directory, entry_of, exchange, field_of, forward, frozen, limbo_behind, load, present,
+    back, directory, entry_of, exchange, field_of, forward, frozen, leave_slot, load, present,
     store,
 };
 use crate::seen::{is_ripe_slot, is_source, is_valid};
@@ -41,7 +41,7 @@ pub(crate) fn round_seen(coll: u8, seen: Option<RoundWord>) -> Change
     ensures { result ≡ round_seen coll seen }
 {
     match seen {
-        None => { goes(Phase::Begin(BeginPhase::Count(first_count(coll)))) }
+        None => goes(Phase::Begin(BeginPhase::Count(first_count(coll)))),
         Some(round) => ends(Done::Busy {
             bound: round.bound,
             pass: round.pass,
@@ -94,11 +94,7 @@ pub(crate) fn begin_offer(epoch: u64, next: BeginPhase) -> Offer
             present(number, walk.source),
             frozen(number, walk.source),
         ),
-        BeginPhase::GiveUp(walk) => store(
-            22,
-            directory(walk.coll, walk.target),
-            limbo_behind(epoch),
-        ),
+        BeginPhase::GiveUp(walk) => leave_slot(walk.coll, walk.target, epoch),
     }
 }
 
@@ -175,7 +171,7 @@ pub(crate) fn begin_change(shape: &Shape, epoch: u64, next: BeginPhase, seen: Wo
             walk,
             number,
             field,
-        } => { goes(Phase::Begin(blank_field(shape, walk, number, field + 1))) }
+        } => goes(Phase::Begin(blank_field(shape, walk, number, field + 1))),
         BeginPhase::StoreBack { walk, number } => {
             goes(Phase::Begin(BeginPhase::StoreForward { walk, number }))
         }

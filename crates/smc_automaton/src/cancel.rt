@@ -3,7 +3,7 @@ ghost use Rattle.std.specs.Prelude.{◌≡◌, ◌<◌, ◌≤◌};
 ghost use Rattle.smc_core.specs.Cancel.{cancel_offer, next_cancelled, cancel_owner, unfreeze, cancel_next, cancel_change};
 ghost use Rattle.smc_automaton.specs.FitsPhase.{FitsCancel};
 
-use crate::op::{back, directory, entry_of, exchange, frozen, limbo_behind, load, present, store};
+use crate::op::{back, directory, entry_of, exchange, frozen, leave_slot, load, present, store};
 use crate::seen::{frozen_slot, is_incoming};
 use crate::size::slots_of;
 use crate::step::{ends, goes};
@@ -17,8 +17,8 @@ pub(crate) fn cancel_offer(epoch: u64, next: CancelPhase) -> Offer
     ensures { result ≡ cancel_offer epoch next }
 {
     match next {
-        CancelPhase::Directory { coll, slot } => { load(10, directory(coll, slot)) }
-        CancelPhase::Back { coll, slot } => { load(24, back(coll, slot)) }
+        CancelPhase::Directory { coll, slot } => load(10, directory(coll, slot)),
+        CancelPhase::Back { coll, slot } => load(24, back(coll, slot)),
         CancelPhase::Entry { number, .. } => load(13, entry_of(number)),
         CancelPhase::Unfreeze { number, source, .. } => exchange(
             30,
@@ -26,7 +26,7 @@ pub(crate) fn cancel_offer(epoch: u64, next: CancelPhase) -> Offer
             frozen(number, source),
             present(number, source),
         ),
-        CancelPhase::GiveUp { coll, slot } => store(22, directory(coll, slot), limbo_behind(epoch)),
+        CancelPhase::GiveUp { coll, slot } => leave_slot(coll, slot, epoch),
         CancelPhase::End => store(36, Place::Round, Word::Round(None)),
     }
 }

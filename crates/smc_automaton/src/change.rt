@@ -70,3 +70,6 @@ pub fn changed(
         Choice::Start(call) => Ok(start_change(shape, pass, stand, call, told, seen)),
     }
 }
+
+#[cfg(test)]
+mod tests;

@@ -69,8 +69,8 @@ pub(crate) fn count_offer(next: CountPhase) -> Offer
     ensures { result ≡ count_offer next }
 {
     match next {
-        CountPhase::Directory { coll, slot, .. } => { load(10, directory(coll, slot)) }
-        CountPhase::Back { coll, slot, .. } => { load(24, back(coll, slot)) }
+        CountPhase::Directory { coll, slot, .. } => load(10, directory(coll, slot)),
+        CountPhase::Back { coll, slot, .. } => load(24, back(coll, slot)),
         CountPhase::Entry { number, .. } => load(13, entry_of(number)),
     }
 }

@@ -1,5 +1,5 @@
 //! What a look-up learns from the words that it is shown.
-ghost use Rattle.std.specs.Prelude.{◌≡◌};
+ghost use Rattle.std.specs.Prelude.{◌≡◌, if◌then◌else◌};
 ghost use Rattle.smc_core.specs.Look.{find, find_after_abandon, find_after_swing, help_finding, look_finding};
 ghost use Rattle.smc_automaton.specs.FitsPhase.{FitsCopy, FitsLook};
 
@@ -8,6 +8,17 @@ use crate::op::{frozen, locked};
 use smc_core::{CopyPhase, Finding, LookPhase, State, Word};
 use smc_shape::Shape;
 use smc_words::Number;
+
+/// The object is held in this slot, where its entry is still its own.
+fn stays_where(own: bool, slot: u32) -> Finding
+    ensures { result ≡ (if own then Finding.Stays slot else Finding.Absent) }
+{
+    if own {
+        Finding::Stays { slot }
+    } else {
+        Finding::Absent
+    }
+}
 
 /// By the entry: a frozen object is held in a calm section and its move abandoned in another, and a locked one is held in
 /// a calm section and its move helped in another.
@@ -18,13 +29,7 @@ fn find(calm: bool, incarnation: u32, seen: State) -> Finding
         State::Present {
             incarnation: other,
             slot,
-        } => {
-            if other == incarnation {
-                Finding::Stays { slot }
-            } else {
-                Finding::Absent
-            }
-        }
+        } => stays_where(other == incarnation, slot),
         State::Frozen {
             incarnation: other,
             slot,
@@ -68,13 +73,7 @@ fn find_after_abandon(incarnation: u32, seen: State) -> Finding
         | State::Frozen {
             incarnation: other,
             slot,
-        } => {
-            if other == incarnation {
-                Finding::Stays { slot }
-            } else {
-                Finding::Absent
-            }
-        }
+        } => stays_where(other == incarnation, slot),
         State::Locked {
             incarnation: other,
             slot,
@@ -108,13 +107,7 @@ fn find_after_swing(incarnation: u32, seen: State) -> Finding
         | State::Locked {
             incarnation: other,
             slot,
-        } => {
-            if other == incarnation {
-                Finding::Stays { slot }
-            } else {
-                Finding::Absent
-            }
-        }
+        } => stays_where(other == incarnation, slot),
         State::Free { .. } | State::Claimed { .. } | State::Removed { .. } => Finding::Absent,
     }
 }

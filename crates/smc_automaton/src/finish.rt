@@ -5,8 +5,7 @@ ghost use Rattle.smc_automaton.specs.FitsPhase.{FitsFinish};
 
 use crate::copy::copy_offer;
 use crate::op::{
-    back, directory, entry_of, exchange, frozen, limbo_behind, load, locked, section_of,
-    store,
+    back, directory, entry_of, exchange, frozen, leave_slot, load, locked, section_of, store,
 };
 use crate::seen::{frozen_slot, is_incoming};
 use crate::step::{ends, goes};
@@ -52,16 +51,8 @@ pub(crate) fn finish_offer(epoch: u64, next: FinishPhase) -> Offer
             Word::Directory(Dir::Incoming),
             Word::Directory(Dir::Valid),
         ),
-        FinishPhase::LeaveSource { targets, source } => store(
-            22,
-            directory(targets.coll, source),
-            limbo_behind(epoch),
-        ),
-        FinishPhase::GiveUp { targets, .. } => store(
-            22,
-            directory(targets.coll, targets.slot),
-            limbo_behind(epoch),
-        ),
+        FinishPhase::LeaveSource { targets, source } => leave_slot(targets.coll, source, epoch),
+        FinishPhase::GiveUp { targets, .. } => leave_slot(targets.coll, targets.slot, epoch),
         FinishPhase::End(_) => store(36, Place::Round, Word::Round(None)),
     }
 }
@@ -105,7 +96,7 @@ fn finish_next(shape: &Shape, next: FinishPhase, seen: Word) -> FinishPhase
             number,
             source,
             copy,
-        } => { moved(shape, targets, number, source, copy, seen) }
+        } => moved(shape, targets, number, source, copy, seen),
         FinishPhase::Settle { targets, source } => FinishPhase::LeaveSource { targets, source },
         FinishPhase::LeaveSource { targets, .. } => next_target(shape, with_moved(targets)),
         FinishPhase::GiveUp { targets, gone } => next_target(shape, with_given_up(gone, targets)),

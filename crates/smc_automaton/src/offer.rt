@@ -26,7 +26,7 @@ fn go_offer(shape: &Shape, pass: u32, stand: &Stand) -> Option<Offer>
     Some(match stand.phase {
         Phase::Idle => return None,
         Phase::Entering => return entering_offer(pass, section),
-        Phase::Advancing { pass: other, .. } => { load(8, section_of(other)) }
+        Phase::Advancing { pass: other, .. } => load(8, section_of(other)),
         Phase::Ready { epoch } => exchange(
             9,
             Place::Epoch,

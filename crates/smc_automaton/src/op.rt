@@ -121,10 +121,11 @@ pub(crate) fn locked(number: Number, slot: u32) -> Word
     })
 }
 
-/// What a section at this epoch leaves in a slot: it may be used again from some later epoch on.
-pub(crate) fn limbo_behind(epoch: u64) -> Word
+/// The store with which a section at this epoch leaves a slot, which may be used again from some later epoch on.
+pub(crate) fn leave_slot(coll: u8, slot: u32, epoch: u64) -> Offer
     requires { epoch ≤ LAST_EPOCH }
-    ensures { result ≡ Word.Directory (Dir.Limbo (epoch + 1)) }
+    ensures { result ≡ step 22 (Op.Store (Place.Directory coll slot) (Word.Directory (Dir.Limbo (epoch + 1)))) }
 {
-    Word::Directory(Dir::Limbo(epoch + 1))
+    let limbo = Dir::Limbo(epoch + 1);
+    store(22, directory(coll, slot), Word::Directory(limbo))
 }

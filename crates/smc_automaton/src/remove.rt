@@ -2,7 +2,7 @@
 ghost use Rattle.std.specs.Prelude.{◌≡◌, ◌≤◌};
 ghost use Rattle.smc_core.specs.Remove.{remove_offer, mark_seen, remove_change};
 
-use crate::op::{directory, entry_of, limbo_behind, store};
+use crate::op::{directory, entry_of, leave_slot, store};
 use crate::seen::is_gone;
 use crate::step::{ends, goes, goes_telling, tells};
 use smc_core::{Change, Done, LAST_EPOCH, Offer, Phase, RemovePhase, State, Word};
@@ -15,11 +15,7 @@ pub(crate) fn remove_offer(epoch: u64, next: RemovePhase) -> Offer
     ensures { result ≡ remove_offer epoch next }
 {
     match next {
-        RemovePhase::LeaveSlot { slot, number } => store(
-            22,
-            directory(number.coll, slot),
-            limbo_behind(epoch),
-        ),
+        RemovePhase::LeaveSlot { slot, number } => leave_slot(number.coll, slot, epoch),
         RemovePhase::FreeEntry { number } => store(
             23,
             entry_of(number),

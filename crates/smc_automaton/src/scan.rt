@@ -58,8 +58,8 @@ pub(crate) fn scan_offer(pass: u32, next: ScanPhase) -> Offer
     ensures { result ≡ scan_offer pass next }
 {
     match next {
-        ScanPhase::Directory { coll, slot, .. } => { load(10, directory(coll, slot)) }
-        ScanPhase::Back { coll, slot, .. } => { load(24, back(coll, slot)) }
+        ScanPhase::Directory { coll, slot, .. } => load(10, directory(coll, slot)),
+        ScanPhase::Back { coll, slot, .. } => load(24, back(coll, slot)),
         ScanPhase::End { .. } => load(8, section_of(pass)),
     }
 }

@@ -127,7 +127,7 @@ pub(crate) fn is_source(number: Number, slot: u32, seen: State) -> bool
         State::Present {
             incarnation,
             slot: there,
-        } => { incarnation == number.incarnation && there == slot }
+        } => incarnation == number.incarnation && there == slot,
         State::Free { .. }
         | State::Claimed { .. }
         | State::Frozen { .. }

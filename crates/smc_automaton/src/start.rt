@@ -163,13 +163,6 @@ fn cancel_begun(epoch: u64, owned: Option<Owned>) -> Option<Offer>
     }
 }
 
-/// The load of the epoch, as a step of this kind.
-fn load_epoch(kind: u32) -> Offer
-    ensures { result ≡ step kind (Op.Load Place.Epoch) }
-{
-    load(kind, Place::Epoch)
-}
-
 /// The first step of a call, where the call may be made.
 pub(crate) fn start_offer(shape: &Shape, pass: u32, stand: &Stand, call: &Call) -> Option<Offer>
     requires { FitsStand shape.now stand.now }
@@ -178,9 +171,9 @@ pub(crate) fn start_offer(shape: &Shape, pass: u32, stand: &Stand, call: &Call) 
     let section = stand.section;
     let offer = match call {
         Call::Enter | Call::Note | Call::Learn { .. } => {
-            return when_outside(section, load_epoch(1));
+            return when_outside(section, load(1, Place::Epoch));
         }
-        Call::Advance => return when_outside(section, load_epoch(7)),
+        Call::Advance => return when_outside(section, load(7, Place::Epoch)),
         Call::Leave => Some(store(6, section_of(pass), Word::Plain(0))),
         Call::Add { coll, from, words } => when(
             takes(shape, *coll, *from, words),
@@ -195,26 +188,19 @@ pub(crate) fn start_offer(shape: &Shape, pass: u32, stand: &Stand, call: &Call) 
             field,
             value,
         } => {
-            write_start(
-                shape,
-                held_slot(&stand.held, *number),
-                *number,
-                *field,
-                *value,
-            )
+            let held = held_slot(&stand.held, *number);
+            write_start(shape, held, *number, *field, *value)
         }
         Call::Remove { number } => remove_start(held_slot(&stand.held, *number), *number),
         Call::Scan { coll } => when(has_coll(shape, *coll), own_word(pass)),
         Call::Next { scan } => next_start(shape, pass, scan_of(&stand.scans, *scan)),
-        Call::Begin { coll } => {
-            when(
-                has_coll(shape, *coll),
-                round_offer(pass, epoch_of(section), *coll),
-            )
-        }
+        Call::Begin { coll } => when(
+            has_coll(shape, *coll),
+            round_offer(pass, epoch_of(section), *coll),
+        ),
         Call::Finish => finish_begun(pass, epoch_of(section), stand.round),
         Call::Cancel => cancel_begun(epoch_of(section), stand.round),
-        Call::Survey { coll } => { when(has_coll(shape, *coll), count_offer(first_count(*coll))) }
+        Call::Survey { coll } => when(has_coll(shape, *coll), count_offer(first_count(*coll))),
     };
     when_inside(section, offer)
 }

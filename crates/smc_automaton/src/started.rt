@@ -163,7 +163,7 @@ pub(crate) fn start_change(
         Call::Begin { coll } => round_seen(*coll, seen.round()),
         Call::Finish => finish_owned(shape, epoch_of(section), stand.round, seen),
         Call::Cancel => cancel_owned(shape, stand.round, seen),
-        Call::Survey { coll } => { survey_change(counting(shape, first_count(*coll), seen)) }
+        Call::Survey { coll } => survey_change(counting(shape, first_count(*coll), seen)),
         Call::Note => ends(Done::Noted { note: stand.noted }),
         Call::Learn { pass: other, .. } => {
             tells(
