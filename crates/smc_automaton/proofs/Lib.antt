@@ -1,0 +1,6 @@
+mod LookLaws
+mod MoveLaws
+mod ObjectLaws
+mod SeenLaws
+mod StandLaws
+mod WordLaws
