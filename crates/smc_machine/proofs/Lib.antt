@@ -1,0 +1,6 @@
+mod AddedLaws
+mod BackLaws
+mod OpenLaws
+mod RowLaws
+mod RunningLaws
+mod ScanLaws
