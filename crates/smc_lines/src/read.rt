@@ -1,0 +1,139 @@
+ghost use Rattle.std.specs.Prelude.{◌≡◌, ◌≢◌, ◌≤◌, ◌<◌, ◌+◌, ◌*◌, List, ℕ, [], ◌∷◌, ◌++◌, Err, length, take, drop, slice_index, All, IfOk, IfErr, IfSome, IfNone, OnOk, IsTrue, false};
+ghost use Rattle.std.specs.Io.KnownBytes.{Keeps, IsAtEnd, prepend_known};
+ghost use Rattle.std.specs.Str.Lines.{strip_carriage_return};
+ghost use Rattle.smc_outside.specs.Causes.{HasCause, Rose};
+ghost use Rattle.smc_outside.specs.Told.{OnTold};
+ghost use Rattle.smc_lines.specs.Lines.{IsShort, IsWithin};
+ghost use Rattle.smc_lines.specs.Reading.{HasEnded, PassesLimit, Reads, IsRead, IsRefused, IsOutside, UnlessMemory};
+
+use crate::fault::LinesFault;
+use crate::limits::{MAX_LINE, MAX_LINES, NEWLINE};
+use crate::lines::Lines;
+use memchr::memchr;
+use smc_outside::Source;
+use std::alloc::Global;
+
+/// How many bytes one read takes at most.
+const ROOM: usize = 4096;
+
+// The line that has not ended: where it begins, and how many have ended before it.
+#[derive(Clone, Copy)]
+struct Place {
+    start: usize,
+    ended: u64,
+}
+
+/// The place of the first newline.
+pub fn find_newline(bytes: &[u8]) -> Option<usize>
+    ensures within { IfSome result (λ at. at < length bytes.now) }
+    ensures here { IfSome result (λ at. slice_index bytes.now at ≡ NEWLINE) }
+    ensures first { IfSome result (λ at. All (λ x. x ≢ NEWLINE) (take at bytes.now)) }
+    ensures nowhere { IfNone result (All (λ x. x ≢ NEWLINE) bytes.now) }
+{
+    memchr(NEWLINE, bytes)
+}
+
+/// A line less the one carriage return at its end.
+pub fn without_return(line: &[u8]) -> &[u8]
+    ensures { result.now ≡ strip_carriage_return line.now }
+{
+    match line {
+        [text @ .., b'\r'] => text,
+        _ => line,
+    }
+}
+
+// Refuses a line behind so many others, or the front of one, where it is past a limit.
+fn check_line(line: &[u8], before: u64) -> Result<(), LinesFault>
+    requires { before ≤ MAX_LINES }
+    ensures few { OnOk result (before < MAX_LINES) }
+    ensures short { OnOk result (IsShort (strip_carriage_return line.now)) }
+    ensures refused { IfErr result (λ fault. IsRefused fault (strip_carriage_return line.now) before) }
+{
+    if before == MAX_LINES {
+        return Err(LinesFault::TooMany);
+    }
+    if without_return(line).len() > MAX_LINE {
+        return Err(LinesFault::TooLong { line: before + 1 });
+    }
+    Ok(())
+}
+
+// Goes past the lines that have ended.
+fn pass_ended(text: &[u8], mut place: Place) -> Result<Place, LinesFault>
+    requires { HasEnded text.now place.start place.ended }
+    ensures ended { IfOk result (λ place. HasEnded text.now place.start place.ended) }
+    ensures no_end { IfOk result (λ place. All (λ x. x ≢ NEWLINE) (drop place.start text.now)) }
+    ensures refused { IfErr result (λ fault. (rest : List ℕ) → PassesLimit fault (text.now ++ rest)) }
+{
+    loop {
+        let (_, behind) = text.split_at(place.start);
+        let Some(size) = find_newline(behind) else {
+            return Ok(place);
+        };
+        let (line, _) = behind.split_at(size);
+        if let Err(fault) = check_line(line, place.ended) {
+            return Err(fault);
+        }
+        place.start += size + 1;
+        place.ended += 1;
+    }
+}
+
+// Goes past the lines that have ended, and sees that the line which has not is within the limits so far.
+fn pass_lines(text: &[u8], place: Place) -> Result<Place, LinesFault>
+    requires { HasEnded text.now place.start place.ended }
+    ensures ended { IfOk result (λ place. HasEnded text.now place.start place.ended) }
+    ensures small { IfOk result (λ place. length text.now ≤ place.start + (MAX_LINE + 1)) }
+    ensures within { OnOk result (IsWithin text.now) }
+    ensures refused { IfErr result (λ fault. (rest : List ℕ) → PassesLimit fault (text.now ++ rest)) }
+{
+    let place = pass_ended(text, place)?;
+    let (_, line) = text.split_at(place.start);
+    if line.is_empty() {
+        return Ok(place);
+    }
+    match check_line(line, place.ended) {
+        Ok(()) => Ok(place),
+        Err(fault) => Err(fault),
+    }
+}
+
+// Reads on, and answers whether there was more.
+fn read_piece<S: Source>(source: &mut S, text: &mut Vec<u8>) -> Result<bool, LinesFault>
+    ensures kept { IsRead result (prepend_known text.old.items (S.left source.old)) (prepend_known text.new.items (S.left source.new)) }
+    ensures more { IfOk result (λ more. IsTrue more → length text.old.items < length text.new.items) }
+    ensures front { IfOk result (λ _. (piece : List ℕ) × (text.new.items ≡ text.old.items ++ piece)) }
+    ensures end { IfOk result (λ more. more ≡ false → IsAtEnd (S.left source.new) × (text.new.items ≡ text.old.items)) }
+    ensures failed { result ≡ Err LinesFault.ReadFault → Rose (S.faults source.old) (S.faults source.new) × (text.new.items ≡ text.old.items) }
+    ensures refused { IfErr result IsOutside }
+    ensures later { S.faults source.old ≤ S.faults source.new }
+{
+    let mut room = [0; ROOM];
+    let count = match source.read(&mut room) {
+        Ok(count) => count,
+        Err(_) => return Err(LinesFault::ReadFault),
+    };
+    let (piece, _) = room.split_at(count);
+    text.extend_from_slice(piece)?;
+    Ok(count > 0)
+}
+
+/// Reads the whole input into lines.
+///
+/// The first line past a limit is refused as soon as it was met, and what is behind it is not read.
+pub fn read_lines<S: Source>(alloc: Global, source: &mut S) -> Result<Lines, LinesFault>
+    ensures reads { UnlessMemory result (λ answer. OnTold (S.left source.old) (S.left source.new) (Reads answer)) }
+    ensures failed { result ≡ Err LinesFault.ReadFault → Rose (S.faults source.old) (S.faults source.new) }
+    ensures later { S.faults source.old ≤ S.faults source.new }
+{
+    let mut text = Vec::new(alloc);
+    let mut place = Place { start: 0, ended: 0 };
+    while read_piece(source, &mut text)? {
+        place = match pass_lines(&text, place) {
+            Ok(place) => place,
+            Err(fault) => return Err(fault),
+        };
+    }
+    Ok(Lines::of(text))
+}
