@@ -132,3 +132,64 @@ impl<'a> Cursor<'a> {
         Ok(None)
     }
 }
+
+#[cfg(test)]
+mod tests {
+    use super::*;
+    use crate::read::read_lines;
+    use smc_outside::MemSource;
+    use std::test::Fail;
+
+    // A line that is expected: its number, and its text where it has one.
+    type Expected<'a> = (u64, Option<&'a str>);
+
+    #[test]
+    fn lines_are_handed_out_with_their_numbers(rt: HostRuntime) -> Result<(), Fail> {
+        let cases: [(&[u8], &[Expected<'_>]); 9] = [
+            (b"", &[]),
+            (b"a", &[(1, Some("a"))]),
+            (b"a\nb\r\n", &[(1, Some("a")), (2, Some("b"))]),
+            (b"\n# x\n\r\n \n#", &[(4, Some(" "))]),
+            (b"a\r\r\n\r", &[(1, Some("a\r"))]),
+            (b" #a\n\n\nb", &[(1, Some(" #a")), (4, Some("b"))]),
+            (b"a\n\xff\nb", &[(1, Some("a")), (2, None)]),
+            (b"#\xff\nb", &[(1, None)]),
+            (b"\n#\0\nb", &[(2, None)]),
+        ];
+        for (case, (text, lines)) in cases.iter().enumerate() {
+            let alloc = rt.alloc();
+            let mut source = MemSource::new(text.to_vec(alloc)?, 3, Vec::new(alloc));
+            let read = read_lines(alloc, &mut source)?;
+            let mut cursor = read.cursor();
+            for (line, text) in lines.iter() {
+                let answer = cursor.next_line();
+                match text {
+                    Some(text) => {
+                        let Ok(Some(next)) = answer else {
+                            assert!(rt; false, "no line {line} at {case}");
+                            return Ok(());
+                        };
+                        assert_eq!(rt; next.line, *line, "at {case}");
+                        assert_eq!(rt; next.text, *text, "at {case}");
+                    }
+                    None => assert_eq!(rt; answer.err(), Some(BadLine { line: *line }), "at {case}"),
+                }
+                assert_eq!(rt; cursor.line(), *line, "at {case}");
+            }
+        }
+        Ok(())
+    }
+
+    #[test]
+    fn a_cursor_ends_at_the_last_line(rt: HostRuntime) -> Result<(), Fail> {
+        let alloc = rt.alloc();
+        let mut source = MemSource::new(b"a\n#\n\n".to_vec(alloc)?, 9, Vec::new(alloc));
+        let read = read_lines(alloc, &mut source)?;
+        let mut cursor = read.cursor();
+        assert!(rt; cursor.next_line()?.is_some());
+        assert!(rt; cursor.next_line()?.is_none());
+        assert!(rt; cursor.next_line()?.is_none());
+        assert_eq!(rt; cursor.line(), 3);
+        Ok(())
+    }
+}

@@ -34,3 +34,30 @@ pub fn read_number(word: &str, most: u64) -> Option<u64>
     }
     Some(value)
 }
+
+#[cfg(test)]
+mod tests {
+    use super::*;
+
+    #[test]
+    fn numbers_fit_their_bound(rt: HostRuntime) {
+        let cases = [
+            ("0", 0, Some(0)),
+            ("007", 7, Some(7)),
+            ("8", 7, None),
+            ("4294967295", 4_294_967_295, Some(4_294_967_295)),
+            ("4294967296", 4_294_967_295, None),
+            ("00018446744073709551615", u64::MAX, Some(u64::MAX)),
+            ("18446744073709551616", u64::MAX, None),
+            ("99999999999999999999999", u64::MAX, None),
+            ("", 9, None),
+            ("-1", 9, None),
+            ("+1", 9, None),
+            ("1 ", 9, None),
+            ("0x1", 9, None),
+        ];
+        for (word, most, number) in cases {
+            assert_eq!(rt; read_number(word, most), number, "at {word}");
+        }
+    }
+}

@@ -137,3 +137,96 @@ pub fn read_lines<S: Source>(alloc: Global, source: &mut S) -> Result<Lines, Lin
     }
     Ok(Lines::of(text))
 }
+
+#[cfg(test)]
+mod tests {
+    use super::*;
+    use smc_outside::MemSource;
+    use std::test::Fail;
+
+    // Bytes of one kind with an end behind them.
+    fn line_of(alloc: Global, count: usize, end: &[u8]) -> Result<Vec<u8>, Fail> {
+        let mut line = Vec::new(alloc);
+        for _ in 0..count {
+            line.push(b'x')?;
+        }
+        line.extend_from_slice(end)?;
+        Ok(line)
+    }
+
+    // So many lines of one byte, and an end of the text.
+    fn lines_of(alloc: Global, count: u64, end: &[u8]) -> Result<Vec<u8>, Fail> {
+        let mut text = Vec::new(alloc);
+        for _ in 0..count {
+            text.extend_from_slice(b"x\n")?;
+        }
+        text.extend_from_slice(end)?;
+        Ok(text)
+    }
+
+    // What the reading of a text says, where so many bytes come at a time and these reads fail.
+    fn fault_of(
+        alloc: Global,
+        text: Vec<u8>,
+        most: usize,
+        fails: &[u64],
+    ) -> Result<Option<LinesFault>, Fail> {
+        let mut source = MemSource::new(text, most, fails.to_vec(alloc)?);
+        Ok(read_lines(alloc, &mut source).err())
+    }
+
+    #[test]
+    fn a_line_has_1024_bytes_and_no_more(rt: HostRuntime) -> Result<(), Fail> {
+        let long = Some(LinesFault::TooLong { line: 1 });
+        let cases = [
+            (1024, b"\n".as_slice(), None),
+            (1024, b"\r\n", None),
+            (1024, b"\r", None),
+            (1024, b"", None),
+            (1023, b"\r\r\n", None),
+            (1025, b"\n", long),
+            (1025, b"\r\n", long),
+            (1025, b"", long),
+            (1024, b"\r\r\n", long),
+            (1024, b"\rx", long),
+            (5000, b"", long),
+        ];
+        for (count, end, fault) in cases {
+            for most in [1, 1025, 9000] {
+                let text = line_of(rt.alloc(), count, end)?;
+                assert_eq!(rt; fault_of(rt.alloc(), text, most, &[])?, fault, "at {count}, {most}");
+            }
+        }
+        Ok(())
+    }
+
+    #[test]
+    fn a_text_has_100000_lines_and_no_more(rt: HostRuntime) -> Result<(), Fail> {
+        let cases = [
+            (100_000, b"".as_slice(), None),
+            (99_999, b"x", None),
+            (100_000, b"x", Some(LinesFault::TooMany)),
+            (100_000, b"\r", Some(LinesFault::TooMany)),
+            (100_001, b"", Some(LinesFault::TooMany)),
+        ];
+        for (count, end, fault) in cases {
+            let text = lines_of(rt.alloc(), count, end)?;
+            assert_eq!(rt; fault_of(rt.alloc(), text, 4000, &[])?, fault, "at {count}");
+        }
+        Ok(())
+    }
+
+    #[test]
+    fn what_is_met_first_counts(rt: HostRuntime) -> Result<(), Fail> {
+        let text = line_of(rt.alloc(), 1025, b"\n")?;
+        let fault = fault_of(rt.alloc(), text, 5, &[0])?;
+        assert_eq!(rt; fault, Some(LinesFault::ReadFault));
+        let text = line_of(rt.alloc(), 1025, b"\nx")?;
+        let fault = fault_of(rt.alloc(), text, 1026, &[1])?;
+        assert_eq!(rt; fault, Some(LinesFault::TooLong { line: 1 }));
+        let text = line_of(rt.alloc(), 3, b"\nx\n")?;
+        let fault = fault_of(rt.alloc(), text, 2, &[2])?;
+        assert_eq!(rt; fault, Some(LinesFault::ReadFault));
+        Ok(())
+    }
+}

@@ -54,3 +54,29 @@ impl<'a> Words<'a> {
         self.rest.is_none()
     }
 }
+
+#[cfg(test)]
+mod tests {
+    use super::*;
+
+    #[test]
+    fn words_stand_between_single_spaces(rt: HostRuntime) {
+        let cases: [(&str, &[&str]); 6] = [
+            ("", &[""]),
+            ("a", &["a"]),
+            ("0 enter !", &["0", "enter", "!"]),
+            ("a  b", &["a", "", "b"]),
+            (" a ", &["", "a", ""]),
+            ("a\tb", &["a\tb"]),
+        ];
+        for (text, list) in cases {
+            let mut words = Words::of(text);
+            for word in list {
+                assert!(rt; !words.is_empty(), "at {text}");
+                assert_eq!(rt; words.next_word().unwrap_or("?"), *word, "at {text}");
+            }
+            assert!(rt; words.is_empty(), "at {text}");
+            assert!(rt; words.next_word().is_none(), "at {text}");
+        }
+    }
+}
