@@ -5,3 +5,4 @@ pub mod Lines
 pub mod Header
 pub mod Answers
 pub mod Known
+pub mod Grammar

@@ -1,5 +1,5 @@
--- What the lines of a schedule say.
-use Rattle.std.specs.Prelude.{◌≡◌, ℕ, ◌-◌, Bool, if◌then◌else◌, nat_eq, List, [], ◌∷◌, length, take, codes, None, Some, option_and_then}
+-- What a line of a schedule says, as a function of its text; `Grammar.antt` has the same in the words of the format.
+use Rattle.std.specs.Prelude.{ℕ, ◌-◌, Bool, if◌then◌else◌, nat_eq, List, [], ◌∷◌, length, take, codes, None, Some, option_and_then}
 use Rattle.std.specs.declared.option.Option.{Option}
 use Rattle.std.specs.List.{ends_with}
 use Rattle.std.specs.Option.{option_map}
@@ -35,7 +35,3 @@ abbrev pub line_of : ℕ → List ℕ → Option ScheduleLine
 line_of width text =
     if ends_with nat_eq text (codes " !") then pass_and (run_of width) (words (take (length text - 2) text))
     else pass_and (step_of width) (words text)
-
--- the line says this
-abbrev pub SpellsLine : ℕ → List ℕ → ScheduleLine → Type 0
-SpellsLine width text line = line_of width text ≡ Some line

@@ -10,6 +10,7 @@
 mod answer;
 mod call;
 mod header;
+pub mod laws;
 mod line;
 mod name;
 mod names;
