@@ -2,14 +2,15 @@
 use Rattle.std.proofs.Common.{◌≡◌, ◌≢◌, ℕ, ◌-◌, List, [], ◌∷◌, ◌++◌, Bool, true, false, codes, length, take, nat_eq, refl, sym, ap, ◌∙◌, subst}
 use Rattle.std.proofs.lemmas.List.{append_cancel_right}
 use Rattle.std.proofs.lemmas.Slice.Eq.{bytes_eq-Decides}
-use Rattle.std.specs.Prelude.{Option, None, Some, option_and_then, if◌then◌else◌}
+use Rattle.std.specs.Prelude.{Option, None, Some, Result, Ok, Err, IfOk, option_and_then, if◌then◌else◌}
 use Rattle.std.specs.List.{ends_with, join_with_byte}
 use Rattle.std.specs.Option.{option_map}
 use Rattle.std.specs.Str.{bytes_eq}
+use Rattle.smc_words.specs.declared.memory.NoMemory.{NoMemory}
 use Rattle.smc_lines.specs.Words.{words}
 use Rattle.smc_lines.specs.declared.limits.TheConstants.{SPACE}
 use Rattle.smc_schedule.specs.Calls.{call_from, index_of}
-use Rattle.smc_schedule.specs.Grammar.{SpellsAct, SpellsLine}
+use Rattle.smc_schedule.specs.Grammar.{Reads, SpellsAct, SpellsLine}
 use Rattle.smc_schedule.specs.Lines.{run_of, step_alone, step_of, pass_and, line_of}
 use Rattle.smc_schedule.specs.declared.call.StartCall.{StartCall}
 use Rattle.smc_schedule.specs.declared.line.Act.{Act}
@@ -147,3 +148,10 @@ line-one width text one other first second =
     let first_read = line-spelled width text one first in
     let second_read = line-spelled width text other second in
     cc
+
+-- what is read is all that a line spells
+pub reads-value : (width : ℕ) (text : List ℕ) (read : Result (Option ScheduleLine) NoMemory) → IfOk read (λ line. line ≡ line_of width text)
+    → IfOk read (λ line. Reads width text line)
+reads-value width text (Ok (Some line)) is = line-read width text line (sym is)
+reads-value width text (Ok None) is = λ line spells. let some = line-spelled width text line spells in absurd cc
+reads-value width text (Err fault) is = tt

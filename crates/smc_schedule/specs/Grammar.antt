@@ -1,5 +1,6 @@
 -- The lines of a schedule behind the first, as the format has them: which words spell what.
-use Rattle.std.specs.Prelude.{◌≡◌, ℕ, IsTrue, List, [], ◌∷◌, ◌++◌, length, codes, Some}
+use Rattle.std.specs.Prelude.{◌≡◌, ℕ, IsTrue, List, [], ◌∷◌, ◌++◌, length, codes, None, Some}
+use Rattle.std.specs.declared.option.Option.{Option}
 use Rattle.smc_lines.specs.Words.{words}
 use Rattle.smc_schedule.specs.Calls.{index_of, value_of, values_of}
 use Rattle.smc_schedule.specs.Names.{is_name}
@@ -42,3 +43,8 @@ SpellsAct width words RunOn = words ≡ codes "!" ∷ []
 -- the line spells a pass, and what it is to do
 abbrev pub SpellsLine : ℕ → List ℕ → ScheduleLine → Type 0
 SpellsLine width text line = (pass : List ℕ) × (act : List (List ℕ)) × (words text ≡ pass ∷ act) × (index_of pass ≡ Some line.pass) × SpellsAct width act line.act
+
+-- what an answer says of the line: it spells this, or nothing
+abbrev pub Reads : ℕ → List ℕ → Option ScheduleLine → Type 0
+Reads width text (Some line) = SpellsLine width text line
+Reads width text None = (line : ScheduleLine) → ¬ SpellsLine width text line

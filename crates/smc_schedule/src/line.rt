@@ -1,4 +1,5 @@
 ghost use Rattle.std.specs.Prelude.{◌≡◌, IfOk};
+ghost use Rattle.smc_schedule.specs.Grammar.{Reads};
 ghost use Rattle.smc_schedule.specs.Lines.{line_of, pass_and, run_of, step_alone, step_of};
 
 use crate::call::{StartCall, read_call, read_index};
@@ -93,8 +94,8 @@ fn read_stepping(alloc: Global, mut words: Words<'_>, width: u32) -> Result<Opti
     Ok(read_step(alloc, words, width)?.map(|act| ScheduleLine { pass, act }))
 }
 
-/// Reads a line behind the first, where a record has so many fields; `None` where it is outside the grammar.
-pub fn read_line(
+// Reads the words of a line, with or without a last `!`.
+fn read_words(
     alloc: Global,
     text: &str,
     width: u32,
@@ -105,6 +106,18 @@ pub fn read_line(
         Some(front) => read_running(alloc, Words::of(front), width),
         None => read_stepping(alloc, Words::of(text), width),
     }
+}
+
+/// Reads a line behind the first, where a record has so many fields; `None` where it is outside the grammar.
+pub fn read_line(
+    alloc: Global,
+    text: &str,
+    width: u32,
+) -> Result<Option<ScheduleLine>, NoMemory>
+    ensures reads { IfOk result (λ line. Reads width text.now line) }
+    ensures value { IfOk result (λ line. line ≡ line_of width text.now) }
+{
+    read_words(alloc, text, width)
 }
 
 #[cfg(test)]

@@ -1,6 +1,5 @@
-use Rattle.std.proofs.Common.{false, codes}
-use Rattle.std.proofs.lemmas.Str.Pattern.{ends_text}
+use Rattle.smc_schedule.proofs.GrammarLaws.{reads-value}
 use Rattle.smc_schedule.proofs.line.read_line.Goals as goal
 
-pub returns-in-None : goal.returns-in-None
-returns-in-None c = rw (← ends_text false (codes " !") c.args.text.now c.in-None.ensures.cases, ← c.of-in-None.ensures) c.read_stepping.ensures
+pub returns-clause-reads : goal.returns-clause-reads
+returns-clause-reads c = reads-value c.args.width c.args.text.now c.read_words.result c.read_words.ensures
