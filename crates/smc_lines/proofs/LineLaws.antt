@@ -164,15 +164,16 @@ module _ (text : List ℕ) (start ended : ℕ) (has : HasEnded text start ended)
       let (room, short) = fits (omega arith) in
       let count = has.count in
       let size = length-map has.before strip_carriage_return in
-      rw (lines-last (byte ∷ line) none (omega arith), map-append strip_carriage_return has.before ((byte ∷ line) ∷ []))
-      (All-push IsShort (map strip_carriage_return has.before) (strip_carriage_return (byte ∷ line)) has.short short,
-          omega (arith, length-append (map strip_carriage_return has.before) (strip_carriage_return (byte ∷ line) ∷ [])))
+      rw (lines-last (byte ∷ line) none (omega arith), map-append strip_carriage_return has.before ((byte ∷ line) ∷ [])) (
+        All-push IsShort (map strip_carriage_return has.before) (strip_carriage_return (byte ∷ line)) has.short short,
+        omega (arith, length-append (map strip_carriage_return has.before) (strip_carriage_return (byte ∷ line) ∷ [])),
+      )
 
   -- all of the text is within the limits
   pub IsWithin-open : HasNoEnd (drop start text) → (0 < length (drop start text) → (ended < MAX_LINES) × IsShort (strip_carriage_return (drop start text)))
       → IsWithin text
   IsWithin-open none fits =
       let is : ended_lines text ≡ has.before ++ ended_lines (drop start text) =
-          rw (append-nil text, append-nil (drop start text)) at (has.parts []) in
+      rw (append-nil text, append-nil (drop start text)) at (has.parts []) in
       let (short, few) = end-within (drop start text) none fits in
       record { short = rw is short; few = rw is few }

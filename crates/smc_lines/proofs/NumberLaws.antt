@@ -15,7 +15,7 @@ fold-grows value (digit ∷ digits) = let more = fold-grows (then_digit value di
 decimal_value-front : (count : ℕ) (digits : List ℕ) → decimal_value (take count digits) ≤ decimal_value digits
 decimal_value-front count digits =
     let whole : decimal_value digits ≡ fold then_digit (decimal_value (take count digits)) (drop count digits) =
-        ap decimal_value (sym (take-append-drop count digits)) ∙ fold-append then_digit 0 (take count digits) (drop count digits) in
+    ap decimal_value (sym (take-append-drop count digits)) ∙ fold-append then_digit 0 (take count digits) (drop count digits) in
     rw whole (fold-grows (decimal_value (take count digits)) (drop count digits))
 
 -- both tests are asked

@@ -10,7 +10,6 @@ use Rattle.std.specs.Option.{option_copied}
 use Rattle.smc_lines.specs.Words.{words, words_left}
 use Rattle.smc_lines.specs.declared.limits.TheConstants.{SPACE}
 
-
 -- a text has a word
 some_words : (text : List ℕ) → false ≡ (length (words text) == 0)
 some_words text =

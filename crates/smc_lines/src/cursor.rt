@@ -172,7 +172,11 @@ mod tests {
                         assert_eq!(rt; next.line, *line, "at {case}");
                         assert_eq!(rt; next.text, *text, "at {case}");
                     }
-                    None => assert_eq!(rt; answer.err(), Some(BadLine { line: *line }), "at {case}"),
+                    None => assert_eq!(rt;
+                        answer.err(),
+                        Some(BadLine { line: *line }),
+                        "at {case}"
+                    ),
                 }
                 assert_eq!(rt; cursor.line(), *line, "at {case}");
             }

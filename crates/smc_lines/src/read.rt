@@ -194,7 +194,11 @@ mod tests {
         for (count, end, fault) in cases {
             for most in [1, 1025, 9000] {
                 let text = line_of(rt.alloc(), count, end)?;
-                assert_eq!(rt; fault_of(rt.alloc(), text, most, &[])?, fault, "at {count}, {most}");
+                assert_eq!(rt;
+                    fault_of(rt.alloc(), text, most, &[])?,
+                    fault,
+                    "at {count}, {most}"
+                );
             }
         }
         Ok(())

@@ -37,7 +37,7 @@ step-read : (width : ℕ) (words : List (List ℕ)) (act : Act) → step_of widt
 step-read width [] act is = absurd cc
 step-read width (word ∷ words) act is =
     elim (bytes_eq word (codes ".")) as (λ b. bytes_eq word (codes ".") ≡ b
-        → (if b then step_alone words else option_map Start (call_from width word words)) ≡ Some act → SpellsAct width (word ∷ words) act) [
+    → (if b then step_alone words else option_map Start (call_from width word words)) ≡ Some act → SpellsAct width (word ∷ words) act) [
       | true ↦ λ dot here. alone-read width word words act ((bytes_eq-Decides word (codes ".")).0 dot) here
       | false ↦ λ other here.
           let (call, reads, same) = changed Start (call_from width word words) act here in
@@ -64,7 +64,7 @@ pub line-read : (width : ℕ) (text : List ℕ) (line : ScheduleLine) → line_o
 line-read width text line is =
     let front = take (length text - 2) text in
     elim (ends_with nat_eq text (codes " !")) as (λ b. ends_with nat_eq text (codes " !") ≡ b
-        → (if b then pass_and (run_of width) (words front) else pass_and (step_of width) (words text)) ≡ Some line → SpellsLine width text line) [
+    → (if b then pass_and (run_of width) (words front) else pass_and (step_of width) (words text)) ≡ Some line → SpellsLine width text line) [
       | true ↦ λ ends here.
           let has = pass-read (run_of width) (words front) line here in
           let whole : words text ≡ words front ++ codes "!" ∷ [] = ap words (marked-parts text ends) ∙ words-marked front in
@@ -79,7 +79,7 @@ no_mark-read : (width : ℕ) (text pass : List ℕ) (others : List (List ℕ)) (
     → index_of pass ≡ Some line.pass → step_of width others ≡ Some line.act → line_of width text ≡ Some line
 no_mark-read width text pass others line is last index act =
     elim (ends_with nat_eq text (codes " !")) as (λ b. ends_with nat_eq text (codes " !") ≡ b
-        → (if b then pass_and (run_of width) (words (take (length text - 2) text)) else pass_and (step_of width) (words text)) ≡ Some line) [
+    → (if b then pass_and (run_of width) (words (take (length text - 2) text)) else pass_and (step_of width) (words text)) ≡ Some line) [
       | true ↦ λ ends.
           let front = take (length text - 2) text in
           let whole : words text ≡ words front ++ codes "!" ∷ [] = ap words (marked-parts text ends) ∙ words-marked front in

@@ -39,7 +39,6 @@ last_word-push [] word = refl
 last_word-push (first ∷ []) word = refl
 last_word-push (first ∷ next ∷ front) word = last_word-push (next ∷ front) word
 
-
 -- a text that ends in a mark
 pub marked-parts : (text : List ℕ) → ends_with nat_eq text (codes " !") ≡ true → text ≡ take (length text - 2) text ++ codes " !"
 marked-parts text ends =

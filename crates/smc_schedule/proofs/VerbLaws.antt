@@ -15,7 +15,18 @@ pub no_verb : (word : List ℕ) → word ≢ codes "enter" → word ≢ codes "l
     → word ≢ codes "write" → word ≢ codes "remove" → word ≢ codes "scan" → word ≢ codes "next" → word ≢ codes "begin" → word ≢ codes "finish" → word ≢ codes "cancel"
     → None ≡ verb_of word
 no_verb word enter leave advance add look read write remove scan next begin finish cancel =
-    rw (unlike (codes "enter") word enter, unlike (codes "leave") word leave, unlike (codes "advance") word advance, unlike (codes "add") word add,
-        unlike (codes "look") word look, unlike (codes "read") word read, unlike (codes "write") word write, unlike (codes "remove") word remove,
-        unlike (codes "scan") word scan, unlike (codes "next") word next, unlike (codes "begin") word begin, unlike (codes "finish") word finish,
-        unlike (codes "cancel") word cancel) refl
+    rw (
+      unlike (codes "enter") word enter,
+      unlike (codes "leave") word leave,
+      unlike (codes "advance") word advance,
+      unlike (codes "add") word add,
+      unlike (codes "look") word look,
+      unlike (codes "read") word read,
+      unlike (codes "write") word write,
+      unlike (codes "remove") word remove,
+      unlike (codes "scan") word scan,
+      unlike (codes "next") word next,
+      unlike (codes "begin") word begin,
+      unlike (codes "finish") word finish,
+      unlike (codes "cancel") word cancel,
+    ) refl

@@ -30,7 +30,7 @@ opening_of words = None
 abbrev pub sizes_of : List ℕ → List ℕ → List ℕ → List (List ℕ) → Option Header
 sizes_of p w s opening =
     option_and_then (λ passes. option_and_then (λ width. option_and_then (λ slots. option_map (λ open_as.
-        record { passes = passes; width = width; slots = slots; opening = open_as })
+    record { passes = passes; width = width; slots = slots; opening = open_as })
     (opening_of opening)) (slots_of s)) (number_within 1 MAX_WIDTH w)) (number_within 1 MAX_PASSES p)
 
 -- `shape P W S`, with an opening or without

@@ -23,12 +23,7 @@ fn round_text(alloc: Global, bound: u64, moves: u64) -> Result<String, AllocErro
     format!(in alloc; "round {bound} moves {moves}")
 }
 
-fn finished_text(
-    alloc: Global,
-    moved: u64,
-    abandoned: u64,
-    gone: u64,
-) -> Result<String, AllocError>
+fn finished_text(alloc: Global, moved: u64, abandoned: u64, gone: u64) -> Result<String, AllocError>
     ensures { IfOk result (λ text. string_bytes text ≡ finished_of moved abandoned gone) }
 {
     format!(in alloc; "done {moved} {abandoned} {gone}")
@@ -105,32 +100,101 @@ mod tests {
         let cases = [
             (0, Verb::Enter, Done::At { epoch: 2 }, "0 enter at 2\n"),
             (0, Verb::Leave, Done::Out, "0 leave out\n"),
-            (1, Verb::Advance, Done::Advanced { epoch: 3 }, "1 advance advanced 3\n"),
-            (1, Verb::Advance, Done::NotYet { pass: 0, seen: 5 }, "1 advance notyet 0 5\n"),
-            (0, Verb::Advance, Done::Overtaken { seen: 3 }, "0 advance overtaken 3\n"),
+            (
+                1,
+                Verb::Advance,
+                Done::Advanced { epoch: 3 },
+                "1 advance advanced 3\n",
+            ),
+            (
+                1,
+                Verb::Advance,
+                Done::NotYet { pass: 0, seen: 5 },
+                "1 advance notyet 0 5\n",
+            ),
+            (
+                0,
+                Verb::Advance,
+                Done::Overtaken { seen: 3 },
+                "0 advance overtaken 3\n",
+            ),
             (0, Verb::Advance, Done::Spent, "0 advance spent\n"),
             (0, Verb::Add, Done::Made { slot: 64 }, "0 add made 64\n"),
-            (0, Verb::Add, Done::Full { full: Cause::Slots }, "0 add full slots\n"),
-            (0, Verb::Add, Done::Full { full: Cause::Entries }, "0 add full entries\n"),
+            (
+                0,
+                Verb::Add,
+                Done::Full { full: Cause::Slots },
+                "0 add full slots\n",
+            ),
+            (
+                0,
+                Verb::Add,
+                Done::Full {
+                    full: Cause::Entries,
+                },
+                "0 add full entries\n",
+            ),
             (31, Verb::Look, Done::Here { slot: 0 }, "31 look here 0\n"),
             (0, Verb::Look, Done::Null, "0 look null\n"),
-            (0, Verb::Read, Done::Value { value: u64::MAX }, "0 read value 18446744073709551615\n"),
+            (
+                0,
+                Verb::Read,
+                Done::Value { value: u64::MAX },
+                "0 read value 18446744073709551615\n",
+            ),
             (0, Verb::Write, Done::Written, "0 write done\n"),
             (0, Verb::Remove, Done::First, "0 remove first\n"),
             (0, Verb::Remove, Done::Late, "0 remove late\n"),
             (0, Verb::Scan, Done::Begun, "0 scan begun\n"),
-            (1, Verb::Next, Done::Visit { number, slot: 7 }, "1 next visit a 7\n"),
+            (
+                1,
+                Verb::Next,
+                Done::Visit { number, slot: 7 },
+                "1 next visit a 7\n",
+            ),
             (1, Verb::Next, Done::End, "1 next end\n"),
-            (0, Verb::Begin, Done::Round { coll: 0, bound: 6, moves: 1 }, "0 begin round 6 moves 1\n"),
-            (0, Verb::Begin, Done::Nothing { coll: 0 }, "0 begin nothing\n"),
-            (1, Verb::Begin, Done::Busy { bound: 6, pass: 0, coll: 0 }, "1 begin busy 6 0\n"),
+            (
+                0,
+                Verb::Begin,
+                Done::Round {
+                    coll: 0,
+                    bound: 6,
+                    moves: 1,
+                },
+                "0 begin round 6 moves 1\n",
+            ),
+            (
+                0,
+                Verb::Begin,
+                Done::Nothing { coll: 0 },
+                "0 begin nothing\n",
+            ),
+            (
+                1,
+                Verb::Begin,
+                Done::Busy {
+                    bound: 6,
+                    pass: 0,
+                    coll: 0,
+                },
+                "1 begin busy 6 0\n",
+            ),
             (
                 0,
                 Verb::Finish,
-                Done::Finished { moved: 1, abandoned: 0, gone: 0 },
+                Done::Finished {
+                    moved: 1,
+                    abandoned: 0,
+                    gone: 0,
+                },
                 "0 finish done 1 0 0\n",
             ),
-            (0, Verb::Finish, Done::Early { epoch: 5, bound: 6 }, "0 finish early 5 6\n"),
+            (
+                0,
+                Verb::Finish,
+                Done::Early { epoch: 5, bound: 6 },
+                "0 finish early 5 6\n",
+            ),
             (0, Verb::Cancel, Done::Cancelled, "0 cancel done\n"),
         ];
         for (pass, verb, done, line) in cases {

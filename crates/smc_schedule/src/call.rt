@@ -14,11 +14,26 @@ pub enum StartCall {
     Enter,
     Leave,
     Advance,
-    Add { name: Name, from: u32, words: Record },
-    Look { name: Name },
-    Read { name: Name, field: u32 },
-    Write { name: Name, field: u32, value: u64 },
-    Remove { name: Name },
+    Add {
+        name: Name,
+        from: u32,
+        words: Record,
+    },
+    Look {
+        name: Name,
+    },
+    Read {
+        name: Name,
+        field: u32,
+    },
+    Write {
+        name: Name,
+        field: u32,
+        value: u64,
+    },
+    Remove {
+        name: Name,
+    },
     Scan,
     Next,
     Begin,
@@ -70,8 +85,7 @@ fn read_name(alloc: Global, mut words: Words<'_>) -> Result<Option<Name>, NoMemo
 fn read_read(alloc: Global, mut words: Words<'_>) -> Result<Option<StartCall>, NoMemory>
     ensures { IfOk result (λ call. call ≡ read_of words.entry) }
 {
-    let (Some(name), Some(field), None) =
-        (words.next_word(), words.next_word(), words.next_word())
+    let (Some(name), Some(field), None) = (words.next_word(), words.next_word(), words.next_word())
     else {
         return Ok(None);
     };
@@ -89,9 +103,12 @@ fn read_read(alloc: Global, mut words: Words<'_>) -> Result<Option<StartCall>, N
 fn read_write(alloc: Global, mut words: Words<'_>) -> Result<Option<StartCall>, NoMemory>
     ensures { IfOk result (λ call. call ≡ write_of words.entry) }
 {
-    let (Some(name), Some(field), Some(value), None) =
-        (words.next_word(), words.next_word(), words.next_word(), words.next_word())
-    else {
+    let (Some(name), Some(field), Some(value), None) = (
+        words.next_word(),
+        words.next_word(),
+        words.next_word(),
+        words.next_word(),
+    ) else {
         return Ok(None);
     };
     let (Some(field), Some(value)) = (read_index(field), read_value(value)) else {
@@ -119,11 +136,7 @@ fn read_values(alloc: Global, mut words: Words<'_>) -> Result<Option<Record>, No
 }
 
 // The arguments of `add`, where a record has so many fields.
-fn read_add(
-    alloc: Global,
-    mut words: Words<'_>,
-    width: u32,
-) -> Result<Option<StartCall>, NoMemory>
+fn read_add(alloc: Global, mut words: Words<'_>, width: u32) -> Result<Option<StartCall>, NoMemory>
     ensures { IfOk result (λ call. call ≡ add_of width words.entry) }
 {
     let (Some(name), Some(from)) = (words.next_word(), words.next_word()) else {

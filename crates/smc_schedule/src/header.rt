@@ -56,9 +56,12 @@ fn read_opening(mut words: Words<'_>) -> Option<Opening>
     let Some(epoch_word) = words.next_word() else {
         return Some(Opening::plain());
     };
-    let (Some(epoch), Some(inc_word), Some(incarnation), None) =
-        (words.next_word(), words.next_word(), words.next_word(), words.next_word())
-    else {
+    let (Some(epoch), Some(inc_word), Some(incarnation), None) = (
+        words.next_word(),
+        words.next_word(),
+        words.next_word(),
+        words.next_word(),
+    ) else {
         return None;
     };
     if epoch_word != "epoch" || inc_word != "inc" {
@@ -77,9 +80,12 @@ pub fn read_header(text: &str) -> Option<Header>
     ensures { result ≡ header_of (words text.now) }
 {
     let mut words = Words::of(text);
-    let (Some(shape), Some(passes), Some(width), Some(slots)) =
-        (words.next_word(), words.next_word(), words.next_word(), words.next_word())
-    else {
+    let (Some(shape), Some(passes), Some(width), Some(slots)) = (
+        words.next_word(),
+        words.next_word(),
+        words.next_word(),
+        words.next_word(),
+    ) else {
         return None;
     };
     if shape != "shape" {
@@ -104,7 +110,13 @@ mod tests {
     // The numbers of a header, in the order of its line.
     fn numbers(header: Header) -> (u32, u32, u32, u64, u32) {
         let Opening { epoch, incarnation } = header.opening;
-        (header.passes, header.width, header.slots, epoch, incarnation)
+        (
+            header.passes,
+            header.width,
+            header.slots,
+            epoch,
+            incarnation,
+        )
     }
 
     #[test]
@@ -112,10 +124,7 @@ mod tests {
         let cases = [
             ("shape 1 1 64", Some((1, 1, 64, 2, 0))),
             ("shape 32 64 4096", Some((32, 64, 4096, 2, 0))),
-            (
-                "shape 2 2 128 epoch 5 inc 0",
-                Some((2, 2, 128, 5, 0)),
-            ),
+            ("shape 2 2 128 epoch 5 inc 0", Some((2, 2, 128, 5, 0))),
             (
                 "shape 1 1 64 epoch 68719476734 inc 16777215",
                 Some((1, 1, 64, 68_719_476_734, 16_777_215)),

@@ -28,11 +28,7 @@ pub struct ScheduleLine {
 }
 
 // What words before a last `!` say.
-fn read_run(
-    alloc: Global,
-    mut words: Words<'_>,
-    width: u32,
-) -> Result<Option<Act>, NoMemory>
+fn read_run(alloc: Global, mut words: Words<'_>, width: u32) -> Result<Option<Act>, NoMemory>
     ensures { IfOk result (λ act. act ≡ run_of width words.entry) }
 {
     let Some(word) = words.next_word() else {
@@ -52,11 +48,7 @@ fn read_alone(mut words: Words<'_>) -> Option<Act>
 }
 
 // What words without a last `!` say.
-fn read_step(
-    alloc: Global,
-    mut words: Words<'_>,
-    width: u32,
-) -> Result<Option<Act>, NoMemory>
+fn read_step(alloc: Global, mut words: Words<'_>, width: u32) -> Result<Option<Act>, NoMemory>
     ensures { IfOk result (λ act. act ≡ step_of width words.entry) }
 {
     let Some(word) = words.next_word() else {
@@ -69,7 +61,11 @@ fn read_step(
 }
 
 // A line whose last word, a `!`, was taken off.
-fn read_running(alloc: Global, mut words: Words<'_>, width: u32) -> Result<Option<ScheduleLine>, NoMemory>
+fn read_running(
+    alloc: Global,
+    mut words: Words<'_>,
+    width: u32,
+) -> Result<Option<ScheduleLine>, NoMemory>
     ensures { IfOk result (λ line. line ≡ pass_and (run_of width) words.entry) }
 {
     let Some(word) = words.next_word() else {
@@ -82,7 +78,11 @@ fn read_running(alloc: Global, mut words: Words<'_>, width: u32) -> Result<Optio
 }
 
 // A line without a last `!`.
-fn read_stepping(alloc: Global, mut words: Words<'_>, width: u32) -> Result<Option<ScheduleLine>, NoMemory>
+fn read_stepping(
+    alloc: Global,
+    mut words: Words<'_>,
+    width: u32,
+) -> Result<Option<ScheduleLine>, NoMemory>
     ensures { IfOk result (λ line. line ≡ pass_and (step_of width) words.entry) }
 {
     let Some(word) = words.next_word() else {
@@ -95,11 +95,7 @@ fn read_stepping(alloc: Global, mut words: Words<'_>, width: u32) -> Result<Opti
 }
 
 // Reads the words of a line, with or without a last `!`.
-fn read_words(
-    alloc: Global,
-    text: &str,
-    width: u32,
-) -> Result<Option<ScheduleLine>, NoMemory>
+fn read_words(alloc: Global, text: &str, width: u32) -> Result<Option<ScheduleLine>, NoMemory>
     ensures { IfOk result (λ line. line ≡ line_of width text.now) }
 {
     match text.strip_suffix(" !") {
@@ -109,11 +105,7 @@ fn read_words(
 }
 
 /// Reads a line behind the first, where a record has so many fields; `None` where it is outside the grammar.
-pub fn read_line(
-    alloc: Global,
-    text: &str,
-    width: u32,
-) -> Result<Option<ScheduleLine>, NoMemory>
+pub fn read_line(alloc: Global, text: &str, width: u32) -> Result<Option<ScheduleLine>, NoMemory>
     ensures reads { IfOk result (λ line. Reads width text.now line) }
     ensures value { IfOk result (λ line. line ≡ line_of width text.now) }
 {
@@ -149,7 +141,10 @@ mod tests {
                 "0 write a 1 99",
                 "0, Start(Write { name: Name { text: \"a\" }, field: 1, value: 99 })",
             ),
-            ("0 remove a", "0, Start(Remove { name: Name { text: \"a\" } })"),
+            (
+                "0 remove a",
+                "0, Start(Remove { name: Name { text: \"a\" } })",
+            ),
             ("0 scan", "0, Start(Scan)"),
             ("0 next !", "0, Run(Next)"),
             ("0 begin", "0, Start(Begin)"),
