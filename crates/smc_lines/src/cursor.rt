@@ -138,48 +138,42 @@ mod tests {
     use super::*;
     use crate::read::read_lines;
     use smc_outside::MemSource;
+    use std::alloc::Global;
     use std::test::Fail;
 
-    // A line that is expected: its number, and its text where it has one.
-    type Expected<'a> = (u64, Option<&'a str>);
+    // What a cursor hands out, up to the first refusal.
+    fn told(alloc: Global, text: &[u8]) -> Result<String, Fail> {
+        let mut source = MemSource::new(text.to_vec(alloc)?, 3, Vec::new(alloc));
+        let read = read_lines(alloc, &mut source)?;
+        let mut cursor = read.cursor();
+        let mut told = String::new(alloc);
+        for _ in 0..9 {
+            let said = match cursor.next_line() {
+                Ok(Some(Numbered { line, text })) => format!(in alloc; "{line} {text}; ")?,
+                Ok(None) => return Ok(told),
+                Err(BadLine { line }) => format!(in alloc; "{line} bad; ")?,
+            };
+            told.push_str(said.as_str())?;
+        }
+        Ok(told)
+    }
 
     #[test]
     fn lines_are_handed_out_with_their_numbers(rt: HostRuntime) -> Result<(), Fail> {
-        let cases: [(&[u8], &[Expected<'_>]); 9] = [
-            (b"", &[]),
-            (b"a", &[(1, Some("a"))]),
-            (b"a\nb\r\n", &[(1, Some("a")), (2, Some("b"))]),
-            (b"\n# x\n\r\n \n#", &[(4, Some(" "))]),
-            (b"a\r\r\n\r", &[(1, Some("a\r"))]),
-            (b" #a\n\n\nb", &[(1, Some(" #a")), (4, Some("b"))]),
-            (b"a\n\xff\nb", &[(1, Some("a")), (2, None)]),
-            (b"#\xff\nb", &[(1, None)]),
-            (b"\n#\0\nb", &[(2, None)]),
+        let cases = [
+            (b"".as_slice(), ""),
+            (b"a", "1 a; "),
+            (b"a\nb\r\n", "1 a; 2 b; "),
+            (b"\n# x\n\r\n \n#", "4  ; "),
+            (b"a\r\r\n\r", "1 a\r; "),
+            (b" #a\n\n\nb", "1  #a; 4 b; "),
+            (b"a\n\xff\nb", "1 a; 2 bad; 3 b; "),
+            (b"#\xff\nb", "1 bad; 2 b; "),
+            (b"\n#\0\nb", "2 bad; 3 b; "),
         ];
-        for (case, (text, lines)) in cases.iter().enumerate() {
-            let alloc = rt.alloc();
-            let mut source = MemSource::new(text.to_vec(alloc)?, 3, Vec::new(alloc));
-            let read = read_lines(alloc, &mut source)?;
-            let mut cursor = read.cursor();
-            for (line, text) in lines.iter() {
-                let answer = cursor.next_line();
-                match text {
-                    Some(text) => {
-                        let Ok(Some(next)) = answer else {
-                            assert!(rt; false, "no line {line} at {case}");
-                            return Ok(());
-                        };
-                        assert_eq!(rt; next.line, *line, "at {case}");
-                        assert_eq!(rt; next.text, *text, "at {case}");
-                    }
-                    None => assert_eq!(rt;
-                        answer.err(),
-                        Some(BadLine { line: *line }),
-                        "at {case}"
-                    ),
-                }
-                assert_eq!(rt; cursor.line(), *line, "at {case}");
-            }
+        for (text, lines) in cases {
+            let said = told(rt.alloc(), text)?;
+            assert_eq!(rt; said.as_str(), lines, "at {text:?}");
         }
         Ok(())
     }

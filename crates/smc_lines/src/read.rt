@@ -171,7 +171,7 @@ mod tests {
         most: usize,
         fails: &[u64],
     ) -> Result<Option<LinesFault>, Fail> {
-        let mut source = MemSource::new(text, most, fails.to_vec(alloc)?);
+        let mut source = MemSource::new(text, most.max(1), fails.to_vec(alloc)?);
         Ok(read_lines(alloc, &mut source).err())
     }
 
