@@ -1,0 +1,4 @@
+pub mod CallLaws
+pub mod GrammarLaws
+mod MarkLaws
+mod VerbLaws
