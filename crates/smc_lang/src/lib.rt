@@ -1,0 +1,12 @@
+//! Query text.
+#![tactic(auto)]
+
+mod cond;
+mod expr;
+mod path;
+mod query;
+
+pub use cond::{Cond, Op};
+pub use expr::Expr;
+pub use path::{Names, Path, Paths};
+pub use query::{Item, ItemCall, Items, Query, SortKey, SortKeys};
