@@ -6,9 +6,9 @@ use Rattle.smc_tokens.specs.declared.reserved.Reserved.TheVariants as words
 use Rattle.smc_tokens.specs.declared.sign.Sign.TheVariants as signs
 use Rattle.smc_lang.specs.declared.cond.Op.{Op}
 use Rattle.smc_lang.specs.declared.cond.Op.TheVariants as ops
-use Rattle.smc_lang.specs.Trees.{PathTree, ExprTree, field, sum, difference, product, minus, CondTree, either, both, negation, comparison, within, Aggregate, total, average, least, greatest, CallTree, count, aggregate, fold, ItemTree, KeyTree, QueryTree}
+use Rattle.smc_lang.specs.Trees.{PathTree, ExprTree, field, sum, difference, product, minus, CondTree, either, both, negation, comparison, within, Aggregate, total, average, least, greatest, CallTree, count, aggregate, fold, ItemTree, KeyTree, QueryTree, Answer, a_query as a_query_answer, a_cond, an_edit as an_edit_answer}
 use Rattle.smc_lang.specs.Grammar.{op_sign, ReadsPath, one_name, more_names, ReadsFactor, a_number, a_date, a_text, a_path, a_minus, parentheses, ReadsTerm, one_factor, a_product, ReadsExpr, one_term, a_sum, a_difference, ReadsNeg, a_negation, brackets, a_comparison, a_range, ReadsConj, one_neg, an_and, ReadsCond, one_conj, an_or, ReadsCall, a_count, an_aggregate, a_fold, ReadsItem, unnamed, named, ReadsItems, one_item, more_items, ReadsPaths, one_path, more_paths, ReadsKey, rising, falling, ReadsKeys, one_key, more_keys, ReadsFilter, no_filter, a_filter, ReadsBy, no_by, a_by, ReadsSort, no_sort, a_sort, ReadsFirst, no_first, a_first, ReadsQuery, a_query, ReadsEdit, an_edit}
-use Rattle.smc_lang.specs.Machine.{Answer, a_query as a_query_answer, a_cond, an_edit as an_edit_answer, built, Plan, done, must, may, name, whole, names, factor, factors, terms, neg, compared, negs, conjs, paths, opens, call, items, keys, is_mark, path, term, expr, conj, cond, item, key, filter, by, sort, first, from_first, from_sort, from_items, from_by, from_filter, query, condition, edit, step, ended, outcome, sees}
+use Rattle.smc_lang.specs.Machine.{built, Plan, done, must, may, name, whole, names, factor, factors, terms, neg, compared, negs, conjs, paths, call, items, keys, is_mark, path, term, expr, conj, cond, item, key, filter, by, sort, first, from_first, from_sort, from_items, from_by, from_filter, query, condition, edit, step, ended, outcome, sees}
 
 -- what can't go on as an expression
 pub record Closed (r : List Token) : Type 0 where
@@ -192,7 +192,7 @@ path-read {s} {r} {p} h n k = path-outcome h k ∙ pass-names p k r n
 closing : (r : List Token) → Closed (Sign signs.Close ∷ r)
 closing r = record { dot = refl; star = refl; plus = refl; minus_sign = refl }
 
-call-read : {d : ℕ} {s r : List Token} {c : CallTree} → ReadsCall d s c r → (k : CallTree → Plan) → outcome (call d k) s ≡ outcome (k c) r
+call-read : {d : ℕ} {s r : List Token} {c : CallTree} → ReadsCall (suc d) s c r → (k : CallTree → Plan) → outcome (call d k) s ≡ outcome (k c) r
 unfolding outcome step
 call-read a_count k = refl
 call-read (an_aggregate {r = r} {g = total} h) k = expr-read h (closing r) (λ a. must (Sign signs.Close) (k (aggregate total a)))
@@ -201,14 +201,14 @@ call-read (an_aggregate {r = r} {g = least} h) k = expr-read h (closing r) (λ a
 call-read (an_aggregate {r = r} {g = greatest} h) k = expr-read h (closing r) (λ a. must (Sign signs.Close) (k (aggregate greatest a)))
 call-read (a_fold {n = n} {r = r} h) k = expr-read h (closing r) (λ a. must (Sign signs.Close) (k (fold n a)))
 
-item-read : {d : ℕ} {s r : List Token} {i : ItemTree} → ReadsItem d s i r → sees (Word words.As) r ≡ false → (k : ItemTree → Plan) → outcome (item d k) s ≡ outcome (k i) r
+item-read : {d : ℕ} {s r : List Token} {i : ItemTree} → ReadsItem (suc d) s i r → sees (Word words.As) r ≡ false → (k : ItemTree → Plan) → outcome (item d k) s ≡ outcome (k i) r
 unfolding outcome step
 item-read {d} {s} {r} (unnamed {c = c} h) n k =
     call-read h (λ b. may (Word words.As) (name (λ l. k (record { call = b; label = Some l }))) (k (record { call = b; label = None })))
     ∙ pass-may (Word words.As) (name (λ l. k (record { call = c; label = Some l }))) (k (record { call = c; label = None })) r n
 item-read (named h) n k = call-read h (λ b. may (Word words.As) (name (λ l. k (record { call = b; label = Some l }))) (k (record { call = b; label = None })))
 
-items-read : {d : ℕ} {s r : List Token} {is : List ItemTree} → ReadsItems d s is r → sees (Word words.As) r ≡ false → (k : List ItemTree → Plan) → outcome (item d (λ i. items d (i ∷ []) k)) s ≡ outcome (items d is k) r
+items-read : {d : ℕ} {s r : List Token} {is : List ItemTree} → ReadsItems (suc d) s is r → sees (Word words.As) r ≡ false → (k : List ItemTree → Plan) → outcome (item d (λ i. items d (i ∷ []) k)) s ≡ outcome (items d is k) r
 unfolding outcome step
 items-read {d} (one_item h) n k = item-read h n (λ i. items d (i ∷ []) k)
 items-read {d} (more_items {is = is} h g) n k = items-read h refl k ∙ item-read g n (λ i. items d (is ++ i ∷ []) k)
@@ -281,7 +281,7 @@ first-read a_first k = refl
 -- ---- the three texts
 
 -- what spells a query is built as it
-pub query-built : {d : ℕ} {s : List Token} {q : QueryTree} → ReadsQuery d s q [] → outcome (query d) s ≡ built (a_query_answer q)
+pub query-built : {d : ℕ} {s : List Token} {q : QueryTree} → ReadsQuery (suc d) s q [] → outcome (query d) s ≡ built (a_query_answer q)
 unfolding outcome step ended
 query-built {d} (a_query {n = n} {u = u} {v = v} {w = w} {f = f} {ps = ps} {is = is} {ks = ks} hf hb hi hs hk) =
     filter-read hf (by-over hb) (by-where hb) (λ e. from_by d n e)

@@ -9,7 +9,7 @@ use Rattle.smc_tokens.specs.declared.sign.Sign.{Sign as AnySign}
 use Rattle.smc_tokens.specs.declared.sign.Sign.TheVariants as signs
 use Rattle.smc_lang.specs.declared.cond.Op.{Op}
 use Rattle.smc_lang.specs.declared.cond.Op.TheVariants as ops
-use Rattle.smc_lang.specs.Trees.{PathTree, ExprTree, number, date, text, field, sum, difference, product, minus, CondTree, either, both, negation, comparison, within, Aggregate, total, average, least, greatest, CallTree, count, aggregate, fold, ItemTree, KeyTree, QueryTree}
+use Rattle.smc_lang.specs.Trees.{PathTree, ExprTree, number, date, text, field, sum, difference, product, minus, CondTree, either, both, negation, comparison, within, Aggregate, total, average, least, greatest, CallTree, count, aggregate, fold, ItemTree, KeyTree, QueryTree, Answer, a_query as query_answer, a_cond as cond_answer, an_edit as edit_answer, Form, query_text, cond_text, edit_text}
 
 -- the sign of a comparison
 abbrev pub op_sign : Op → AnySign
@@ -131,3 +131,10 @@ pub data ReadsQuery : ℕ → List Token → QueryTree → List Token → Type 0
 -- an edit: expr ["where" cond]
 pub data ReadsEdit : ℕ → List Token → ExprTree → Option CondTree → List Token → Type 0 where
   an_edit : {d : ℕ} {s t r : List Token} {a : ExprTree} {f : Option CondTree} → ReadsExpr d s a t → ReadsFilter d t f r → ReadsEdit d s a f r
+
+-- the tokens, all of them, spell this in a text of this form
+abbrev pub Spells : Form → ℕ → List Token → Answer → Type 0
+Spells query_text depth tokens (query_answer q) = ReadsQuery depth tokens q []
+Spells cond_text depth tokens (cond_answer c) = ReadsCond depth tokens c []
+Spells edit_text depth tokens (edit_answer a f) = ReadsEdit depth tokens a f []
+Spells form depth tokens answer = ⊥

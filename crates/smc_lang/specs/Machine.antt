@@ -7,15 +7,10 @@ use Rattle.smc_tokens.specs.declared.reserved.Reserved.TheVariants as words
 use Rattle.smc_tokens.specs.declared.sign.Sign.TheVariants as signs
 use Rattle.smc_lang.specs.declared.cond.Op.{Op}
 use Rattle.smc_lang.specs.declared.cond.Op.TheVariants as ops
-use Rattle.smc_lang.specs.Trees.{PathTree, ExprTree, number, date, text, field, sum, difference, product, minus, CondTree, either, both, negation, comparison, within, Aggregate, total, average, least, greatest, CallTree, count, aggregate, fold, ItemTree, KeyTree, QueryTree}
+use Rattle.smc_lang.specs.Trees.{PathTree, ExprTree, number, date, text, field, sum, difference, product, minus, CondTree, either, both, negation, comparison, within, Aggregate, total, average, least, greatest, CallTree, count, aggregate, fold, ItemTree, KeyTree, QueryTree, Answer, a_query, a_cond, an_edit, Form, query_text, cond_text, edit_text}
 
--- what a text may be
-pub data Answer : Type 0 where
-  a_query : QueryTree → Answer
-  a_cond : CondTree → Answer
-  an_edit : ExprTree → Option CondTree → Answer
-
--- What is still to come. A part that makes a tree hands it to what comes behind it.
+-- What is still to come; the number is how much more may be opened there, in a call, its items and a query: within a call.
+-- A part that makes a tree hands it to what comes behind it.
 pub data Plan : Type 0 where
   -- nothing
   done : Answer → Plan
@@ -41,8 +36,6 @@ pub data Plan : Type 0 where
   conjs : ℕ → CondTree → (CondTree → Plan) → Plan
   -- behind some paths: {"," path}
   paths : List PathTree → (List PathTree → Plan) → Plan
-  -- a parenthesis, and what stands in it
-  opens : ℕ → (ℕ → Plan) → Plan
   call : ℕ → (CallTree → Plan) → Plan
   -- behind some items: {"," item}; behind some keys: {"," key}
   items : ℕ → List ItemTree → (List ItemTree → Plan) → Plan
@@ -106,7 +99,7 @@ abbrev pub from_by : ℕ → List ℕ → Option CondTree → Plan
 from_by d n f = by (λ ps. must (Word words.Show) (from_items d n f ps))
 
 abbrev pub from_filter : ℕ → List ℕ → Plan
-from_filter d n = filter d (λ f. from_by d n f)
+from_filter d n = filter (suc d) (λ f. from_by d n f)
 
 abbrev pub query : ℕ → Plan
 query d = must (Word words.From) (name (λ n. from_filter d n))
@@ -116,6 +109,12 @@ condition d = cond d (λ c. done (a_cond c))
 
 abbrev pub edit : ℕ → Plan
 edit d = expr d (λ a. filter d (λ f. done (an_edit a f)))
+
+-- the plan of a text in which one more than this may be open
+abbrev pub plan_of : Form → ℕ → Plan
+plan_of query_text d = query d
+plan_of cond_text d = condition (suc d)
+plan_of edit_text d = edit (suc d)
 
 -- what a token makes of a plan: another plan, or it can't be there, or it opens too much
 pub data Step : Type 0 where
@@ -160,11 +159,11 @@ compared_step d a next _ = wrong
 
 -- an expression in the parentheses of a call
 abbrev pub argument : ℕ → (ExprTree → Plan) → Plan
-argument d next = opens d (λ e. expr e (λ a. must (Sign signs.Close) (next a)))
+argument d next = must (Sign signs.Open) (expr d (λ a. must (Sign signs.Close) (next a)))
 
 -- a token of which a call begins
 abbrev pub call_step : ℕ → (CallTree → Plan) → Token → Step
-call_step d next (Word words.Count) = goes (opens d (λ e. must (Sign signs.Close) (next count)))
+call_step d next (Word words.Count) = goes (must (Sign signs.Open) (must (Sign signs.Close) (next count)))
 call_step d next (Word words.Sum) = goes (argument d (λ a. next (aggregate total a)))
 call_step d next (Word words.Avg) = goes (argument d (λ a. next (aggregate average a)))
 call_step d next (Word words.Min) = goes (argument d (λ a. next (aggregate least a)))
@@ -200,7 +199,6 @@ step (compared d a next) t = compared_step d a next t
 step (negs d b next) t = if is_mark (Word words.And) t then goes (neg d (λ c. negs d (both b c) next)) else step (next b) t
 step (conjs d b next) t = if is_mark (Word words.Or) t then goes (conj d (λ c. conjs d (either b c) next)) else step (next b) t
 step (paths ps next) t = if is_mark (Sign signs.Comma) t then goes (path (λ p. paths (ps ++ p ∷ []) next)) else step (next ps) t
-step (opens d next) t = if is_mark (Sign signs.Open) t then opened d next else wrong
 step (call d next) t = call_step d next t
 step (items d is next) t = if is_mark (Sign signs.Comma) t then goes (item d (λ i. items d (is ++ i ∷ []) next)) else step (next is) t
 step (keys ks next) t = if is_mark (Sign signs.Comma) t then goes (key (λ k. keys (ks ++ k ∷ []) next)) else step (next ks) t

@@ -65,6 +65,16 @@ pub record QueryTree : Type 0 where
   pub sort : List KeyTree
   pub first : Option ℕ
 
+-- what a text spells
+pub data Answer : Type 0 where
+  a_query : QueryTree → Answer
+  a_cond : CondTree → Answer
+  an_edit : ExprTree → Option CondTree → Answer
+
+-- what a text is meant to be: a query, a condition, or an edit
+pub data Form : Type 0 where
+  query_text cond_text edit_text : Form
+
 -- the tree of a path
 abbrev pub path_tree : Path → PathTree
 path_tree path = path.names
