@@ -1,2 +1,4 @@
+pub mod MarkLaws
 pub mod OutcomeLaws
 pub mod PlanTexts
+pub mod Deeper

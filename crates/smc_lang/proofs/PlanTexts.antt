@@ -1,5 +1,6 @@
 -- The texts of a plan: what a plan is built of, a text of it spells; and every plan has a text.
 use Rattle.std.proofs.Common.{◌≡◌, ◌==◌, ℕ, zero, suc, Bool, true, false, if◌then◌else◌, List, [], ◌∷◌, ◌++◌, Option, Some, None, refl, sym, ◌∙◌, ap, subst, ◌⊎◌, inl, inr}
+use Rattle.smc_lang.proofs.MarkLaws.{is_mark-is}
 use Rattle.smc_tokens.specs.declared.token.Token.{Token}
 use Rattle.smc_tokens.specs.declared.token.Token.TheVariants.{Name, Word, Date, Number, Text, Sign}
 use Rattle.smc_tokens.specs.declared.reserved.Reserved.{Reserved}
@@ -279,3 +280,59 @@ back-call d next _ g = absurd g
 back-name : (next : List ℕ → Plan) (t : Token) {w : List Token} {a : Answer} → FollowsStep (name_step next t) w a → IsText (name next) (t ∷ w) a
 back-name next (Name n) g = is_name g
 back-name next _ g = absurd g
+
+back-whole : (next : ℕ → Plan) (t : Token) {w : List Token} {a : Answer} → FollowsStep (whole_step next t) w a → IsText (whole next) (t ∷ w) a
+back-whole next (Number n zero) g = is_whole g
+back-whole next (Number n (suc k)) g = absurd g
+back-whole next _ g = absurd g
+
+module _ (m t : Token) (next : Plan) (other : Step) {w : List Token} {a : Answer} where
+  -- a step past a mark, or past what is not one
+  by-mark : FollowsStep (if is_mark m t then goes next else other) w a → ((t ≡ m) × IsText next w a) ⊎ FollowsStep other w a
+  by-mark h = by-test (is_mark m t) refl h
+    where
+    by-test : (b : Bool) → is_mark m t ≡ b → FollowsStep (if b then goes next else other) w a → ((t ≡ m) × IsText next w a) ⊎ FollowsStep other w a
+    by-test true e h = inl (is_mark-is m t e, h)
+    by-test false e h = inr h
+
+-- what follows a step is a text behind its token
+pub back : (plan : Plan) (t : Token) {w : List Token} {a : Answer} → FollowsStep (step plan t) w a → IsText plan (t ∷ w) a
+unfolding step
+back (done b) t g = absurd g
+back (must m next) t {w} {a} g =
+    elim (by-mark m t next wrong g) [ inl p ↦ (let P : Token → Type 0 = λ u. IsText (must m next) (u ∷ w) a in subst P (sym p.0) (marked p.1)) | inr h ↦ absurd h ]
+back (may m next other) t {w} {a} g =
+    elim (by-mark m t next (step other t) g)
+    [ inl p ↦ (let P : Token → Type 0 = λ u. IsText (may m next other) (u ∷ w) a in subst P (sym p.0) (taken p.1)) | inr h ↦ passed (back other t h) ]
+back (name next) t g = back-name next t g
+back (whole next) t g = back-whole next t g
+back (names p next) t {w} {a} g =
+    elim (by-mark (Sign signs.Dot) t (name (λ n. names (p ++ n ∷ []) next)) (step (next p) t) g)
+    [ inl e ↦ (let P : Token → Type 0 = λ u. IsText (names p next) (u ∷ w) a in subst P (sym e.0) (back-names e.1)) | inr h ↦ with_names (λ s o. o) (back (next p) t h) ]
+back (factor d next) t g = back-factor d next t g
+back (factors d x next) t {w} {a} g =
+    elim (by-mark (Sign signs.Star) t (factor d (λ b. factors d (product x b) next)) (step (next x) t) g)
+    [ inl e ↦ (let P : Token → Type 0 = λ u. IsText (factors d x next) (u ∷ w) a in subst P (sym e.0) (back-factors e.1)) | inr h ↦ with_factors (λ s o. o) (back (next x) t h) ]
+back (terms d x next) t {w} {a} g =
+    elim (by-mark (Sign signs.Plus) t (term d (λ b. terms d (sum x b) next)) (if is_mark (Sign signs.Minus) t then goes (term d (λ b. terms d (difference x b) next)) else step (next x) t) g)
+    [ inl e ↦ (let P : Token → Type 0 = λ u. IsText (terms d x next) (u ∷ w) a in subst P (sym e.0) (back-plus e.1))
+    | inr h ↦ elim (by-mark (Sign signs.Minus) t (term d (λ b. terms d (difference x b) next)) (step (next x) t) h)
+      [ inl e ↦ (let P : Token → Type 0 = λ u. IsText (terms d x next) (u ∷ w) a in subst P (sym e.0) (back-minus e.1)) | inr k ↦ with_terms (λ s o. o) (back (next x) t k) ] ]
+back (neg d next) t g = back-neg d next t g
+back (compared d x next) t g = back-compared d x next t g
+back (negs d c next) t {w} {a} g =
+    elim (by-mark (Word words.And) t (neg d (λ b. negs d (both c b) next)) (step (next c) t) g)
+    [ inl e ↦ (let P : Token → Type 0 = λ u. IsText (negs d c next) (u ∷ w) a in subst P (sym e.0) (back-negs e.1)) | inr h ↦ with_negs (λ s o. o) (back (next c) t h) ]
+back (conjs d c next) t {w} {a} g =
+    elim (by-mark (Word words.Or) t (conj d (λ b. conjs d (either c b) next)) (step (next c) t) g)
+    [ inl e ↦ (let P : Token → Type 0 = λ u. IsText (conjs d c next) (u ∷ w) a in subst P (sym e.0) (back-conjs e.1)) | inr h ↦ with_conjs (λ s o. o) (back (next c) t h) ]
+back (paths ps next) t {w} {a} g =
+    elim (by-mark (Sign signs.Comma) t (path (λ p. paths (ps ++ p ∷ []) next)) (step (next ps) t) g)
+    [ inl e ↦ (let P : Token → Type 0 = λ u. IsText (paths ps next) (u ∷ w) a in subst P (sym e.0) (back-paths e.1)) | inr h ↦ with_paths (λ s o. o) (back (next ps) t h) ]
+back (call d next) t g = back-call d next t g
+back (items d is next) t {w} {a} g =
+    elim (by-mark (Sign signs.Comma) t (item d (λ i. items d (is ++ i ∷ []) next)) (step (next is) t) g)
+    [ inl e ↦ (let P : Token → Type 0 = λ u. IsText (items d is next) (u ∷ w) a in subst P (sym e.0) (back-items e.1)) | inr h ↦ with_items (λ s o. o) (back (next is) t h) ]
+back (keys ks next) t {w} {a} g =
+    elim (by-mark (Sign signs.Comma) t (key (λ k. keys (ks ++ k ∷ []) next)) (step (next ks) t) g)
+    [ inl e ↦ (let P : Token → Type 0 = λ u. IsText (keys ks next) (u ∷ w) a in subst P (sym e.0) (back-keys e.1)) | inr h ↦ with_keys (λ s o. o) (back (next ks) t h) ]

@@ -178,7 +178,7 @@ name_step next _ = wrong
 
 -- a number without decimals
 abbrev pub whole_step : (ℕ → Plan) → Token → Step
-whole_step next (Number n k) = if k == 0 then goes (next n) else wrong
+whole_step next (Number n zero) = goes (next n)
 whole_step next _ = wrong
 
 -- what a token makes of a plan
