@@ -14,7 +14,7 @@ use Rattle.smc_lang.specs.Grammar.{Spells, op_sign, aggregate_word, ReadsPath, o
 use Rattle.smc_lang.specs.Machine.{Step, goes, wrong, deep, Outcome, built, stuck, too_deep, onward, at_end, Plan, done, must, may, name, whole, names, factor, factors, terms, neg, compared, negs, conjs, paths, call, items, keys, is_mark, path, term, expr, conj, cond, item, key, filter, by, sort, first, from_first, from_sort, from_items, from_by, from_filter, query, condition, edit, plan_of, opened, factor_step, neg_step, right_side, compared_step, argument, call_step, name_step, whole_step, step, ended, outcome, sees}
 
 -- the plan in which one more may be open
-pub deeper : Plan → Plan
+unfoldable pub deeper : Plan → Plan
 deeper (done a) = done a
 deeper (must m next) = must m (deeper next)
 deeper (may m next other) = may m (deeper next) (deeper other)
@@ -34,12 +34,12 @@ deeper (items d is next) = items (suc d) is (λ js. deeper (next js))
 deeper (keys ks next) = keys ks (λ ls. deeper (next ls))
 
 -- what a step becomes where one more may be open
-pub BecomesDeeper : Step → Step → Type 0
+unfoldable pub BecomesDeeper : Step → Step → Type 0
 BecomesDeeper (goes next) now = now ≡ goes (deeper next)
 BecomesDeeper wrong now = now ≡ wrong
 BecomesDeeper deep now = (next : Plan) × (now ≡ goes next)
 
-ended-deeper : (plan : Plan) → ended (deeper plan) ≡ ended plan
+pub ended-deeper : (plan : Plan) → ended (deeper plan) ≡ ended plan
 unfolding ended deeper
 ended-deeper (done a) = refl
 ended-deeper (may m next other) = ended-deeper other

@@ -1,4 +1,6 @@
-pub mod MarkLaws
-pub mod OutcomeLaws
-pub mod PlanTexts
-pub mod Deeper
+mod MarkLaws
+mod OutcomeLaws
+mod PlanTexts
+mod Deeper
+mod StopLaws
+mod GrammarLaws

@@ -1,3 +1,5 @@
 pub mod Trees
 pub mod Grammar
+pub mod Faults
 pub mod Machine
+pub mod Laws

@@ -3,6 +3,7 @@
 
 mod cond;
 mod expr;
+pub mod laws;
 mod path;
 mod query;
 
