@@ -4,3 +4,4 @@ mod PlanTexts
 mod Deeper
 mod StopLaws
 mod GrammarLaws
+mod ExampleLaws

@@ -3,3 +3,4 @@ pub mod Grammar
 pub mod Faults
 pub mod Machine
 pub mod Laws
+pub mod Examples

@@ -6,7 +6,7 @@ use std::marker::Model;
 /// The names of a path, from the first on. Contracts see a list.
 #[derive(Debug, Drop)]
 pub struct Names {
-    items: Vec<Name>,
+    names: Vec<Name>,
 }
 
 impl Model for Names {
@@ -14,22 +14,22 @@ impl Model for Names {
 
     ghost Value = { List (List ℕ) };
 
-    ghost view = { λ list. list.items.items };
+    ghost view = { λ list. list.names.items };
 }
 
 impl Names {
     /// From a vector, which takes no memory.
-    pub fn of(items: Vec<Name>) -> Names
-        ensures { result ≡ items.items }
+    pub fn of(names: Vec<Name>) -> Names
+        ensures { result ≡ names.items }
     {
-        Names { items }
+        Names { names }
     }
 
     /// All of them, in order.
     pub fn as_slice(&self) -> &[Name]
         ensures { result.now ≡ self.now }
     {
-        self.items.as_slice()
+        self.names.as_slice()
     }
 }
 
@@ -42,7 +42,7 @@ pub struct Path {
 /// Paths, in the order of the text. Contracts see a list.
 #[derive(Debug, Drop)]
 pub struct Paths {
-    items: Vec<Path>,
+    paths: Vec<Path>,
 }
 
 impl Model for Paths {
@@ -51,21 +51,21 @@ impl Model for Paths {
 
     ghost Value = { List Path };
 
-    ghost view = { λ list. list.items.items };
+    ghost view = { λ list. list.paths.items };
 }
 
 impl Paths {
     /// From a vector, which takes no memory.
-    pub fn of(items: Vec<Path>) -> Paths
-        ensures { result ≡ items.items }
+    pub fn of(paths: Vec<Path>) -> Paths
+        ensures { result ≡ paths.items }
     {
-        Paths { items }
+        Paths { paths }
     }
 
     /// All of them, in order.
     pub fn as_slice(&self) -> &[Path]
         ensures { result.now ≡ self.now }
     {
-        self.items.as_slice()
+        self.paths.as_slice()
     }
 }

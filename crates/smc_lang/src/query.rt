@@ -68,7 +68,7 @@ pub struct SortKey {
 /// Sort keys, in the order of the text. Contracts see a list.
 #[derive(Debug, Drop)]
 pub struct SortKeys {
-    items: Vec<SortKey>,
+    keys: Vec<SortKey>,
 }
 
 impl Model for SortKeys {
@@ -77,22 +77,22 @@ impl Model for SortKeys {
 
     ghost Value = { List SortKey };
 
-    ghost view = { λ list. list.items.items };
+    ghost view = { λ list. list.keys.items };
 }
 
 impl SortKeys {
     /// From a vector, which takes no memory.
-    pub fn of(items: Vec<SortKey>) -> SortKeys
-        ensures { result ≡ items.items }
+    pub fn of(keys: Vec<SortKey>) -> SortKeys
+        ensures { result ≡ keys.items }
     {
-        SortKeys { items }
+        SortKeys { keys }
     }
 
     /// All of them, in order.
     pub fn as_slice(&self) -> &[SortKey]
         ensures { result.now ≡ self.now }
     {
-        self.items.as_slice()
+        self.keys.as_slice()
     }
 }
 
