@@ -1,17 +1,11 @@
 -- With one more open at a time, a plan goes on wherever it did, is stuck where it was, and goes on where too much was open.
-use Rattle.std.proofs.Common.{◌≡◌, ◌==◌, ℕ, zero, suc, ◌+◌, Bool, true, false, if◌then◌else◌, List, [], ◌∷◌, ◌++◌, Option, Some, None, refl, sym, ◌∙◌, ap, subst, ◌⊎◌, inl, inr}
+use Rattle.std.proofs.Common.{◌≡◌, ℕ, zero, suc, Bool, true, false, if◌then◌else◌, List, [], ◌∷◌, ◌++◌, refl, ap}
 use Rattle.smc_tokens.specs.declared.token.Token.{Token}
 use Rattle.smc_tokens.specs.declared.token.Token.TheVariants.{Name, Word, Date, Number, Text, Sign}
-use Rattle.smc_tokens.specs.declared.reserved.Reserved.{Reserved}
 use Rattle.smc_tokens.specs.declared.reserved.Reserved.TheVariants as words
-use Rattle.smc_tokens.specs.declared.sign.Sign.{Sign as AnySign}
 use Rattle.smc_tokens.specs.declared.sign.Sign.TheVariants as signs
-use Rattle.smc_tokens.specs.Marks.{word_code, sign_code}
-use Rattle.smc_lang.specs.declared.cond.Op.{Op}
-use Rattle.smc_lang.specs.declared.cond.Op.TheVariants as ops
-use Rattle.smc_lang.specs.Trees.{PathTree, ExprTree, number, date, text, field, sum, difference, product, minus, CondTree, either, both, negation, comparison, within, Aggregate, total, average, least, greatest, CallTree, count, aggregate, fold, ItemTree, KeyTree, QueryTree, Answer, a_query as query_answer, a_cond as cond_answer, an_edit as edit_answer, Form, query_text, cond_text, edit_text}
-use Rattle.smc_lang.specs.Grammar.{Spells, op_sign, aggregate_word, ReadsPath, one_name, more_names, ReadsFactor, a_number, a_date, a_text, a_path, a_minus, parentheses, ReadsTerm, one_factor, a_product, ReadsExpr, one_term, a_sum, a_difference, ReadsNeg, a_negation, brackets, a_comparison, a_range, ReadsConj, one_neg, an_and, ReadsCond, one_conj, an_or, ReadsCall, a_count, an_aggregate, a_fold, ReadsItem, unnamed, named, ReadsItems, one_item, more_items, ReadsPaths, one_path, more_paths, ReadsKey, rising, falling, ReadsKeys, one_key, more_keys, ReadsFilter, no_filter, a_filter, ReadsBy, no_by, a_by, ReadsSort, no_sort, a_sort, ReadsFirst, no_first, a_first, ReadsQuery, a_query, ReadsEdit, an_edit}
-use Rattle.smc_lang.specs.Machine.{Step, goes, wrong, deep, Outcome, built, stuck, too_deep, onward, at_end, Plan, done, must, may, name, whole, names, factor, factors, terms, neg, compared, negs, conjs, paths, call, items, keys, is_mark, path, term, expr, conj, cond, item, key, filter, by, sort, first, from_first, from_sort, from_items, from_by, from_filter, query, condition, edit, plan_of, opened, factor_step, neg_step, right_side, compared_step, argument, call_step, name_step, whole_step, step, ended, outcome, sees}
+use Rattle.smc_lang.specs.Trees.{ExprTree, sum, difference, product, minus, CondTree, either, both, negation, CallTree}
+use Rattle.smc_lang.specs.Machine.{Step, goes, wrong, deep, Plan, done, must, may, name, whole, names, factor, factors, terms, neg, compared, negs, conjs, paths, call, items, keys, is_mark, path, term, expr, conj, cond, item, key, opened, factor_step, neg_step, compared_step, call_step, name_step, whole_step, step, ended}
 
 -- the plan in which one more may be open
 unfoldable pub deeper : Plan → Plan
@@ -129,9 +123,9 @@ step-deeper (factors d x next) t =
     becomes-if (is_mark (Sign signs.Star) t) (factor d (λ b. factors d (product x b) next)) (factor (suc d) (λ b. factors (suc d) (product x b) (λ y. deeper (next y)))) (step (next x) t) (step (deeper (next x)) t) refl (step-deeper (next x) t)
 step-deeper (terms d x next) t =
     becomes-if (is_mark (Sign signs.Plus) t) (term d (λ b. terms d (sum x b) next)) (term (suc d) (λ b. terms (suc d) (sum x b) (λ y. deeper (next y))))
-      (if is_mark (Sign signs.Minus) t then goes (term d (λ b. terms d (difference x b) next)) else step (next x) t)
-      (if is_mark (Sign signs.Minus) t then goes (term (suc d) (λ b. terms (suc d) (difference x b) (λ y. deeper (next y)))) else step (deeper (next x)) t) refl
-      (becomes-if (is_mark (Sign signs.Minus) t) (term d (λ b. terms d (difference x b) next)) (term (suc d) (λ b. terms (suc d) (difference x b) (λ y. deeper (next y)))) (step (next x) t) (step (deeper (next x)) t) refl (step-deeper (next x) t))
+    (if is_mark (Sign signs.Minus) t then goes (term d (λ b. terms d (difference x b) next)) else step (next x) t)
+    (if is_mark (Sign signs.Minus) t then goes (term (suc d) (λ b. terms (suc d) (difference x b) (λ y. deeper (next y)))) else step (deeper (next x)) t) refl
+    (becomes-if (is_mark (Sign signs.Minus) t) (term d (λ b. terms d (difference x b) next)) (term (suc d) (λ b. terms (suc d) (difference x b) (λ y. deeper (next y)))) (step (next x) t) (step (deeper (next x)) t) refl (step-deeper (next x) t))
 step-deeper (neg d next) t = neg-deeper d next t
 step-deeper (compared d x next) t = compared-deeper d x next t
 step-deeper (negs d b next) t =

@@ -1,11 +1,11 @@
 -- What the grammar says of all lists of tokens: one tree, and one of three outcomes.
-use Rattle.std.proofs.Common.{◌≡◌, ◌⊎◌, inl, inr, ℕ, zero, suc, ◌+◌, List, [], ◌∷◌, ◌++◌, append_assoc, refl, sym, ◌∙◌, ap, subst, arith, add_comm}
+use Rattle.std.proofs.Common.{◌≡◌, ◌⊎◌, inl, inr, ℕ, suc, ◌+◌, List, [], ◌∷◌, ◌++◌, append_assoc, refl, sym, ◌∙◌, subst, add_comm}
 use Rattle.std.proofs.lemmas.List.{append-nil}
 use Rattle.smc_tokens.specs.declared.token.Token.{Token}
 use Rattle.smc_lang.specs.Trees.{Answer, Form}
 use Rattle.smc_lang.specs.Grammar.{Spells}
 use Rattle.smc_lang.specs.Machine.{Outcome, built, stuck, too_deep, outcome, plan_of}
-use Rattle.smc_lang.specs.Faults.{Begins, IsWrongToken, IsWrongEnd, IsWrongBehind, IsTooDeep, IsTooDeepBehind}
+use Rattle.smc_lang.specs.Faults.{Begins, IsWrongBehind, IsTooDeepBehind}
 use Rattle.smc_lang.specs.Laws.{SpellsOne, IsSpelled, IsFault, SpellsOrStops, SpelledNeverStops, FrontsBegin}
 use Rattle.smc_lang.proofs.StopLaws.{built-more, spelled-built, built-spells, stuck-is-wrong, deep-is-too-deep}
 

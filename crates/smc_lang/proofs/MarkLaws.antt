@@ -1,10 +1,10 @@
 -- A token that is the same word or sign as another is that token.
-use Rattle.std.proofs.Common.{◌≡◌, ◌==◌, ℕ, zero, suc, Bool, true, false, List, [], ◌∷◌, refl, sym, ◌∙◌, ap}
+use Rattle.std.proofs.Common.{◌≡◌, ℕ, true, [], ◌∷◌, refl, sym, ◌∙◌, ap}
 use Rattle.std.specs.Prelude.{slice_index_or}
-use Rattle.std.proofs.lemmas.Bool.{eqb-true, eq-eqb}
+use Rattle.std.proofs.lemmas.Bool.{eqb-true}
 use Rattle.smc_tokens.specs.Marks.{word_code, sign_code}
 use Rattle.smc_tokens.specs.declared.token.Token.{Token}
-use Rattle.smc_tokens.specs.declared.token.Token.TheVariants.{Name, Word, Date, Number, Text, Sign as OfSign}
+use Rattle.smc_tokens.specs.declared.token.Token.TheVariants.{Word, Sign as OfSign}
 use Rattle.smc_tokens.specs.declared.reserved.Reserved.{Reserved}
 use Rattle.smc_tokens.specs.declared.reserved.Reserved.TheVariants.{From, Where, By, Show, Sort, First, As, And, Or, Not, Between, Desc, Sum, Avg, Min, Max, Count, Fold}
 use Rattle.smc_tokens.specs.declared.sign.Sign.{Sign}
@@ -71,4 +71,3 @@ pub is_mark-is : (m t : Token) → is_mark m t ≡ true → t ≡ m
 is_mark-is (Word a) (Word b) e = ap Word (sym (word_code-injective a b (eqb-true (word_code a) (word_code b) e)))
 is_mark-is (OfSign a) (OfSign b) e = ap OfSign (sym (sign_code-injective a b (eqb-true (sign_code a) (sign_code b) e)))
 is_mark-is _ _ e = cc
-

@@ -1,14 +1,14 @@
 -- What the grammar reads from a list of tokens, the plan makes of it: so no list of tokens spells two trees.
-use Rattle.std.proofs.Common.{◌≡◌, ℕ, suc, Bool, true, false, List, [], ◌∷◌, ◌++◌, Option, Some, None, refl, sym, ◌∙◌, ap}
+use Rattle.std.proofs.Common.{◌≡◌, ℕ, suc, true, false, List, [], ◌∷◌, ◌++◌, Option, Some, None, refl, ◌∙◌}
 use Rattle.smc_tokens.specs.declared.token.Token.{Token}
-use Rattle.smc_tokens.specs.declared.token.Token.TheVariants.{Name, Word, Date, Number, Text, Sign}
+use Rattle.smc_tokens.specs.declared.token.Token.TheVariants.{Word, Sign}
 use Rattle.smc_tokens.specs.declared.reserved.Reserved.TheVariants as words
 use Rattle.smc_tokens.specs.declared.sign.Sign.TheVariants as signs
 use Rattle.smc_lang.specs.declared.cond.Op.{Op}
 use Rattle.smc_lang.specs.declared.cond.Op.TheVariants as ops
-use Rattle.smc_lang.specs.Trees.{PathTree, ExprTree, field, sum, difference, product, minus, CondTree, either, both, negation, comparison, within, Aggregate, total, average, least, greatest, CallTree, count, aggregate, fold, ItemTree, KeyTree, QueryTree, Answer, a_query as a_query_answer, a_cond, an_edit as an_edit_answer}
+use Rattle.smc_lang.specs.Trees.{PathTree, ExprTree, field, sum, difference, product, minus, CondTree, either, both, negation, comparison, within, total, average, least, greatest, CallTree, aggregate, fold, ItemTree, KeyTree, QueryTree, a_query as a_query_answer, a_cond, an_edit as an_edit_answer}
 use Rattle.smc_lang.specs.Grammar.{op_sign, ReadsPath, one_name, more_names, ReadsFactor, a_number, a_date, a_text, a_path, a_minus, parentheses, ReadsTerm, one_factor, a_product, ReadsExpr, one_term, a_sum, a_difference, ReadsNeg, a_negation, brackets, a_comparison, a_range, ReadsConj, one_neg, an_and, ReadsCond, one_conj, an_or, ReadsCall, a_count, an_aggregate, a_fold, ReadsItem, unnamed, named, ReadsItems, one_item, more_items, ReadsPaths, one_path, more_paths, ReadsKey, rising, falling, ReadsKeys, one_key, more_keys, ReadsFilter, no_filter, a_filter, ReadsBy, no_by, a_by, ReadsSort, no_sort, a_sort, ReadsFirst, no_first, a_first, ReadsQuery, a_query, ReadsEdit, an_edit}
-use Rattle.smc_lang.specs.Machine.{built, Plan, done, must, may, name, whole, names, factor, factors, terms, neg, compared, negs, conjs, paths, call, items, keys, is_mark, path, term, expr, conj, cond, item, key, filter, by, sort, first, from_first, from_sort, from_items, from_by, from_filter, query, condition, edit, step, ended, outcome, sees}
+use Rattle.smc_lang.specs.Machine.{built, Plan, done, must, may, name, names, factor, factors, terms, neg, compared, negs, conjs, paths, call, items, keys, path, term, expr, conj, cond, item, key, filter, by, sort, first, from_first, from_sort, from_items, from_by, query, condition, edit, step, ended, outcome, sees}
 
 -- what can't go on as an expression
 pub record Closed (r : List Token) : Type 0 where
@@ -161,8 +161,8 @@ mutual
       expr-neg d k h ∙ (expr-read h (closed-op op t) (λ b. compared d b k) ∙ (op-compared d op a k t ∙ expr-read g n (λ c. k (comparison op a c))))
   neg-outcome {d} (a_range {a = a} {b = b} h g f) n k =
       expr-neg d k h ∙ (expr-read h (record { dot = refl; star = refl; plus = refl; minus_sign = refl }) (λ b. compared d b k)
-        ∙ (expr-read g (record { dot = refl; star = refl; plus = refl; minus_sign = refl }) (λ e. must (Word words.And) (expr d (λ c. k (within a e c))))
-        ∙ expr-read f n (λ c. k (within a b c))))
+      ∙ (expr-read g (record { dot = refl; star = refl; plus = refl; minus_sign = refl }) (λ e. must (Word words.And) (expr d (λ c. k (within a e c))))
+      ∙ expr-read f n (λ c. k (within a b c))))
 
   conj-outcome : {d : ℕ} {s r : List Token} {c : CondTree} → ReadsConj d s c r → Closed r → (k : CondTree → Plan) → outcome (conj d k) s ≡ outcome (negs d c k) r
   conj-outcome {d} (one_neg h) n k = neg-outcome h n (λ c. negs d c k)

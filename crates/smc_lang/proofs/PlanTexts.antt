@@ -1,18 +1,15 @@
 -- The texts of a plan: what a plan is built of, a text of it spells; and every plan has a text.
-use Rattle.std.proofs.Common.{◌≡◌, ◌==◌, ℕ, zero, suc, Bool, true, false, if◌then◌else◌, List, [], ◌∷◌, ◌++◌, Option, Some, None, refl, sym, ◌∙◌, ap, subst, ◌⊎◌, inl, inr}
+use Rattle.std.proofs.Common.{◌≡◌, ℕ, zero, suc, Bool, true, false, if◌then◌else◌, List, [], ◌∷◌, ◌++◌, Option, Some, None, refl, sym, subst, ◌⊎◌, inl, inr}
 use Rattle.smc_lang.proofs.MarkLaws.{is_mark-is}
 use Rattle.smc_tokens.specs.declared.token.Token.{Token}
 use Rattle.smc_tokens.specs.declared.token.Token.TheVariants.{Name, Word, Date, Number, Text, Sign}
-use Rattle.smc_tokens.specs.declared.reserved.Reserved.{Reserved}
 use Rattle.smc_tokens.specs.declared.reserved.Reserved.TheVariants as words
-use Rattle.smc_tokens.specs.declared.sign.Sign.{Sign as AnySign}
 use Rattle.smc_tokens.specs.declared.sign.Sign.TheVariants as signs
-use Rattle.smc_tokens.specs.Marks.{word_code, sign_code}
 use Rattle.smc_lang.specs.declared.cond.Op.{Op}
 use Rattle.smc_lang.specs.declared.cond.Op.TheVariants as ops
-use Rattle.smc_lang.specs.Trees.{PathTree, ExprTree, number, date, text, field, sum, difference, product, minus, CondTree, either, both, negation, comparison, within, Aggregate, total, average, least, greatest, CallTree, count, aggregate, fold, ItemTree, KeyTree, QueryTree, Answer, a_query as query_answer, a_cond as cond_answer, an_edit as edit_answer, Form, query_text, cond_text, edit_text}
-use Rattle.smc_lang.specs.Grammar.{Spells, op_sign, aggregate_word, ReadsPath, one_name, more_names, ReadsFactor, a_number, a_date, a_text, a_path, a_minus, parentheses, ReadsTerm, one_factor, a_product, ReadsExpr, one_term, a_sum, a_difference, ReadsNeg, a_negation, brackets, a_comparison, a_range, ReadsConj, one_neg, an_and, ReadsCond, one_conj, an_or, ReadsCall, a_count, an_aggregate, a_fold, ReadsItem, unnamed, named, ReadsItems, one_item, more_items, ReadsPaths, one_path, more_paths, ReadsKey, rising, falling, ReadsKeys, one_key, more_keys, ReadsFilter, no_filter, a_filter, ReadsBy, no_by, a_by, ReadsSort, no_sort, a_sort, ReadsFirst, no_first, a_first, ReadsQuery, a_query, ReadsEdit, an_edit}
-use Rattle.smc_lang.specs.Machine.{Step, goes, wrong, deep, Outcome, built, stuck, too_deep, onward, at_end, Plan, done, must, may, name, whole, names, factor, factors, terms, neg, compared, negs, conjs, paths, call, items, keys, is_mark, path, term, expr, conj, cond, item, key, filter, by, sort, first, from_first, from_sort, from_items, from_by, from_filter, query, condition, edit, plan_of, opened, factor_step, neg_step, right_side, compared_step, argument, call_step, name_step, whole_step, step, ended, outcome, sees}
+use Rattle.smc_lang.specs.Trees.{PathTree, ExprTree, number, sum, difference, product, CondTree, either, both, comparison, Aggregate, total, average, least, greatest, CallTree, count, aggregate, fold, ItemTree, KeyTree, QueryTree, Answer, a_query as query_answer, an_edit as edit_answer, Form, query_text, cond_text, edit_text}
+use Rattle.smc_lang.specs.Grammar.{Spells, op_sign, aggregate_word, ReadsPath, one_name, more_names, ReadsFactor, a_number, a_date, a_text, a_path, a_minus, parentheses, ReadsTerm, one_factor, a_product, ReadsExpr, one_term, a_sum, a_difference, ReadsNeg, a_negation, brackets, a_comparison, a_range, ReadsConj, one_neg, an_and, ReadsCond, one_conj, an_or, ReadsCall, a_count, an_aggregate, a_fold, ReadsItem, unnamed, named, ReadsItems, one_item, more_items, ReadsPaths, one_path, more_paths, ReadsKey, rising, falling, ReadsKeys, one_key, more_keys, ReadsFilter, no_filter, a_filter, ReadsBy, no_by, a_by, ReadsSort, no_sort, a_sort, ReadsFirst, no_first, a_first, ReadsQuery, a_query, an_edit}
+use Rattle.smc_lang.specs.Machine.{Step, goes, wrong, deep, Plan, done, must, may, name, whole, names, factor, factors, terms, neg, compared, negs, conjs, paths, call, items, keys, is_mark, path, term, expr, conj, cond, item, key, filter, by, sort, from_first, from_sort, from_items, from_by, query, condition, edit, plan_of, factor_step, neg_step, right_side, compared_step, argument, call_step, name_step, whole_step, step}
 
 -- the tokens are a text of the plan, which makes this of it
 pub data IsText : Plan → List Token → Answer → Type 0 where
@@ -106,14 +103,14 @@ query-spells {d} (marked (is_name {n = n} g)) =
     let (f, (t, (hf, gf))) = filter-spells {k = λ f. from_by d n f} g in
     query-from n f hf (by-spells {k = λ ps. must (Word words.Show) (from_items d n f ps)} gf)
   where
-  query-from : {d : ℕ} {s t : List Token} {a : Answer} (n : List ℕ) (f : Option CondTree) → ReadsFilter (suc d) s f t
-      → (ps : List PathTree) × ((r : List Token) × (ReadsBy t ps r × IsText (must (Word words.Show) (from_items d n f ps)) r a))
-      → (q : QueryTree) × (ReadsQuery (suc d) (Word words.From ∷ (Name n ∷ s)) q [] × (a ≡ query_answer q))
-  query-from {d} n f hf (ps, (r, (hb, marked g))) =
-      let (is, (v, (hi, gi))) = items-spell {k = λ is. from_sort n f ps is} g in
-      let (ks, (w, (hs, gs))) = sort-spells {k = λ ks. from_first n f ps is ks} gi in
-      let (k, (hk, e)) = first-spells gs in
-      (record { table = n; filter = f; by = ps; items = is; sort = ks; first = k }, (a_query hf hb hi hs hk, e))
+    query-from : {d : ℕ} {s t : List Token} {a : Answer} (n : List ℕ) (f : Option CondTree) → ReadsFilter (suc d) s f t
+        → (ps : List PathTree) × ((r : List Token) × (ReadsBy t ps r × IsText (must (Word words.Show) (from_items d n f ps)) r a))
+        → (q : QueryTree) × (ReadsQuery (suc d) (Word words.From ∷ (Name n ∷ s)) q [] × (a ≡ query_answer q))
+    query-from {d} n f hf (ps, (r, (hb, marked g))) =
+        let (is, (v, (hi, gi))) = items-spell {k = λ is. from_sort n f ps is} g in
+        let (ks, (w, (hs, gs))) = sort-spells {k = λ ks. from_first n f ps is ks} gi in
+        let (k, (hk, e)) = first-spells gs in
+        (record { table = n; filter = f; by = ps; items = is; sort = ks; first = k }, (a_query hf hb hi hs hk, e))
 
 cond-spelled : {d : ℕ} {w : List Token} {a : Answer} → IsText (condition d) w a → Spells cond_text d w a
 cond-spelled (with_neg h (with_negs f (with_conjs e ends))) = e _ (one_conj (f _ (one_neg h)))
@@ -291,9 +288,9 @@ module _ (m t : Token) (next : Plan) (other : Step) {w : List Token} {a : Answer
   by-mark : FollowsStep (if is_mark m t then goes next else other) w a → ((t ≡ m) × IsText next w a) ⊎ FollowsStep other w a
   by-mark h = by-test (is_mark m t) refl h
     where
-    by-test : (b : Bool) → is_mark m t ≡ b → FollowsStep (if b then goes next else other) w a → ((t ≡ m) × IsText next w a) ⊎ FollowsStep other w a
-    by-test true e h = inl (is_mark-is m t e, h)
-    by-test false e h = inr h
+      by-test : (b : Bool) → is_mark m t ≡ b → FollowsStep (if b then goes next else other) w a → ((t ≡ m) × IsText next w a) ⊎ FollowsStep other w a
+      by-test true e h = inl (is_mark-is m t e, h)
+      by-test false e h = inr h
 
 -- what follows a step is a text behind its token
 pub back : (plan : Plan) (t : Token) {w : List Token} {a : Answer} → FollowsStep (step plan t) w a → IsText plan (t ∷ w) a
@@ -314,10 +311,11 @@ back (factors d x next) t {w} {a} g =
     elim (by-mark (Sign signs.Star) t (factor d (λ b. factors d (product x b) next)) (step (next x) t) g)
     [ inl e ↦ (let P : Token → Type 0 = λ u. IsText (factors d x next) (u ∷ w) a in subst P (sym e.0) (back-factors e.1)) | inr h ↦ with_factors (λ s o. o) (back (next x) t h) ]
 back (terms d x next) t {w} {a} g =
-    elim (by-mark (Sign signs.Plus) t (term d (λ b. terms d (sum x b) next)) (if is_mark (Sign signs.Minus) t then goes (term d (λ b. terms d (difference x b) next)) else step (next x) t) g)
-    [ inl e ↦ (let P : Token → Type 0 = λ u. IsText (terms d x next) (u ∷ w) a in subst P (sym e.0) (back-plus e.1))
-    | inr h ↦ elim (by-mark (Sign signs.Minus) t (term d (λ b. terms d (difference x b) next)) (step (next x) t) h)
-      [ inl e ↦ (let P : Token → Type 0 = λ u. IsText (terms d x next) (u ∷ w) a in subst P (sym e.0) (back-minus e.1)) | inr k ↦ with_terms (λ s o. o) (back (next x) t k) ] ]
+    elim (by-mark (Sign signs.Plus) t (term d (λ b. terms d (sum x b) next)) (if is_mark (Sign signs.Minus) t then goes (term d (λ b. terms d (difference x b) next)) else step (next x) t) g) [
+      | inl e ↦ (let P : Token → Type 0 = λ u. IsText (terms d x next) (u ∷ w) a in subst P (sym e.0) (back-plus e.1))
+      | inr h ↦ elim (by-mark (Sign signs.Minus) t (term d (λ b. terms d (difference x b) next)) (step (next x) t) h)
+          [ inl e ↦ (let P : Token → Type 0 = λ u. IsText (terms d x next) (u ∷ w) a in subst P (sym e.0) (back-minus e.1)) | inr k ↦ with_terms (λ s o. o) (back (next x) t k) ]
+    ]
 back (neg d next) t g = back-neg d next t g
 back (compared d x next) t g = back-compared d x next t g
 back (negs d c next) t {w} {a} g =

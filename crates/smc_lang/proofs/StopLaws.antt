@@ -1,22 +1,14 @@
 -- What the place means where a plan is stuck, or where too much is open: the first token of which no text goes on.
-use Rattle.std.proofs.Common.{◌≡◌, ◌==◌, ℕ, zero, suc, ◌+◌, Bool, true, false, List, [], ◌∷◌, ◌++◌, append_assoc, Option, Some, None, refl, sym, ◌∙◌, ap, subst, ◌⊎◌, inl, inr, arith, add_comm}
+use Rattle.std.proofs.Common.{◌≡◌, ℕ, zero, suc, ◌+◌, List, [], ◌∷◌, ◌++◌, append_assoc, Option, Some, None, refl, sym, ◌∙◌, ap, subst, arith, add_comm}
 use Rattle.std.proofs.lemmas.List.{append-nil}
 use Rattle.smc_lang.specs.Faults.{Begins, IsWrongToken, IsWrongEnd, IsWrongBehind, IsTooDeep, IsTooDeepBehind}
 use Rattle.smc_lang.proofs.OutcomeLaws.{query-built, cond-built, edit-built}
 use Rattle.smc_lang.proofs.PlanTexts.{IsText, ends, passed, with_names, with_factors, with_terms, with_negs, with_conjs, with_paths, with_items, with_keys, FollowsStep, has-text, back, plan-spells}
 use Rattle.smc_lang.proofs.Deeper.{deeper, BecomesDeeper, ended-deeper, step-deeper}
 use Rattle.smc_tokens.specs.declared.token.Token.{Token}
-use Rattle.smc_tokens.specs.declared.token.Token.TheVariants.{Name, Word, Date, Number, Text, Sign}
-use Rattle.smc_tokens.specs.declared.reserved.Reserved.{Reserved}
-use Rattle.smc_tokens.specs.declared.reserved.Reserved.TheVariants as words
-use Rattle.smc_tokens.specs.declared.sign.Sign.{Sign as AnySign}
-use Rattle.smc_tokens.specs.declared.sign.Sign.TheVariants as signs
-use Rattle.smc_tokens.specs.Marks.{word_code, sign_code}
-use Rattle.smc_lang.specs.declared.cond.Op.{Op}
-use Rattle.smc_lang.specs.declared.cond.Op.TheVariants as ops
-use Rattle.smc_lang.specs.Trees.{PathTree, ExprTree, number, date, text, field, sum, difference, product, minus, CondTree, either, both, negation, comparison, within, Aggregate, total, average, least, greatest, CallTree, count, aggregate, fold, ItemTree, KeyTree, QueryTree, Answer, a_query as query_answer, a_cond as cond_answer, an_edit as edit_answer, Form, query_text, cond_text, edit_text}
-use Rattle.smc_lang.specs.Grammar.{Spells, op_sign, aggregate_word, ReadsPath, one_name, more_names, ReadsFactor, a_number, a_date, a_text, a_path, a_minus, parentheses, ReadsTerm, one_factor, a_product, ReadsExpr, one_term, a_sum, a_difference, ReadsNeg, a_negation, brackets, a_comparison, a_range, ReadsConj, one_neg, an_and, ReadsCond, one_conj, an_or, ReadsCall, a_count, an_aggregate, a_fold, ReadsItem, unnamed, named, ReadsItems, one_item, more_items, ReadsPaths, one_path, more_paths, ReadsKey, rising, falling, ReadsKeys, one_key, more_keys, ReadsFilter, no_filter, a_filter, ReadsBy, no_by, a_by, ReadsSort, no_sort, a_sort, ReadsFirst, no_first, a_first, ReadsQuery, a_query, ReadsEdit, an_edit}
-use Rattle.smc_lang.specs.Machine.{Step, goes, wrong, deep, Outcome, built, stuck, too_deep, onward, at_end, Plan, done, must, may, name, whole, names, factor, factors, terms, neg, compared, negs, conjs, paths, call, items, keys, is_mark, path, term, expr, conj, cond, item, key, filter, by, sort, first, from_first, from_sort, from_items, from_by, from_filter, query, condition, edit, plan_of, opened, factor_step, neg_step, right_side, compared_step, argument, call_step, name_step, whole_step, step, ended, outcome, sees}
+use Rattle.smc_lang.specs.Trees.{CallTree, ItemTree, QueryTree, Answer, a_query as query_answer, a_cond as cond_answer, an_edit as edit_answer, Form, query_text, cond_text, edit_text}
+use Rattle.smc_lang.specs.Grammar.{Spells, ReadsCall, ReadsItem, unnamed, named, ReadsItems, one_item, more_items, ReadsQuery, a_query}
+use Rattle.smc_lang.specs.Machine.{Step, goes, wrong, deep, Outcome, built, stuck, too_deep, onward, at_end, Plan, done, may, names, factors, terms, negs, conjs, paths, items, keys, query, condition, edit, plan_of, step, ended, outcome}
 
 -- ---- where more may be open
 
@@ -125,8 +117,14 @@ same-rest s r e = cc
 stop-here : (plan : Plan) (t : Token) (s r : List Token) (stops : List Token → Outcome) → t ∷ s ≡ r → ((later : List Token) → outcome plan (t ∷ later) ≡ stops (t ∷ later)) → Stops plan (t ∷ s) r stops
 stop-here plan t s r stops e h =
     let (more, (answer, g)) = has-text plan in
-    record { front = []; split = e; more = more; answer = answer; is_text = g;
-      ahead = λ u rest is later. let same : t ≡ u = cc in let P : Token → Type 0 = λ v. outcome plan (v ∷ later) ≡ stops (v ∷ later) in subst P same (h later) }
+    record {
+      front = [];
+      split = e;
+      more = more;
+      answer = answer;
+      is_text = g;
+      ahead = λ u rest is later. let same : t ≡ u = cc in let P : Token → Type 0 = λ v. outcome plan (v ∷ later) ≡ stops (v ∷ later) in subst P same (h later);
+    }
 
 stop-later : (plan next : Plan) (t : Token) (s r : List Token) (stops : List Token → Outcome) → step plan t ≡ goes next → Stops next s r stops → Stops plan (t ∷ s) r stops
 unfolding outcome
@@ -179,8 +177,14 @@ deep-here plan t s r e (next, b) same =
     let (later, (answer, g)) = has-text next in
     let (more, (a, f)) = has-text plan in
     record {
-      stops = record { front = []; split = same; more = more; answer = a; is_text = f;
-        ahead = λ u rest is w. let eq : t ≡ u = cc in let P : Token → Type 0 = λ v. outcome plan (v ∷ w) ≡ too_deep (v ∷ w) in subst P eq (rw e refl) };
+      stops = record {
+        front = [];
+        split = same;
+        more = more;
+        answer = a;
+        is_text = f;
+        ahead = λ u rest is w. let eq : t ≡ u = cc in let P : Token → Type 0 = λ v. outcome plan (v ∷ w) ≡ too_deep (v ∷ w) in subst P eq (rw e refl);
+      };
       token = t;
       rest = s;
       is = sym same;
@@ -260,14 +264,22 @@ too-deep-token : (form : Form) (d : ℕ) (s : List Token) (t : Token) (rest : Li
 too-deep-token form d s t rest h =
     let is : h.token ≡ t = head-is h.is in
     let go : IsText (plan_of form (suc d)) (h.stops.front ++ t ∷ h.later) h.result =
-        (let P : Plan → Type 0 = λ q. IsText q (h.stops.front ++ t ∷ h.later) h.result in
-         let Q : Token → Type 0 = λ v. IsText (deeper (plan_of form d)) (h.stops.front ++ v ∷ h.later) h.result in
-         subst P (deeper-of form d) (subst Q is h.goes_on)) in
+    (let P : Plan → Type 0 = λ q. IsText q (h.stops.front ++ t ∷ h.later) h.result in
+    let Q : Token → Type 0 = λ v. IsText (deeper (plan_of form d)) (h.stops.front ++ v ∷ h.later) h.result in
+    subst P (deeper-of form d) (subst Q is h.goes_on)) in
     record {
       begins = begins-at form d s (t ∷ rest) too_deep h.stops;
-      goes_on = (suc (suc d), (h.later, (h.result,
-          (let P : List Token → Type 0 = λ v. Spells form (suc (suc d)) v h.result in
-           subst P (sym (append_assoc h.stops.front (t ∷ []) h.later)) (plan-spells form (suc d) go)))));
+      goes_on = (
+        suc (suc d),
+        (
+          h.later,
+          (
+            h.result,
+            (let P : List Token → Type 0 = λ v. Spells form (suc (suc d)) v h.result in
+                subst P (sym (append_assoc h.stops.front (t ∷ []) h.later)) (plan-spells form (suc d) go)),
+          ),
+        ),
+      );
       none = λ (more, (a, g)).
           let P : List Token → Type 0 = λ v. Spells form (suc d) v a in
           let spelled : Spells form (suc d) (h.stops.front ++ t ∷ more) a = subst P (append_assoc h.stops.front (t ∷ []) more) g in

@@ -5,7 +5,7 @@ use Rattle.smc_tokens.specs.declared.token.Token.TheVariants.{Name, Word, Number
 use Rattle.smc_tokens.specs.declared.reserved.Reserved.TheVariants as words
 use Rattle.smc_tokens.specs.declared.sign.Sign.TheVariants as signs
 use Rattle.smc_lang.specs.declared.cond.Op.TheVariants as ops
-use Rattle.smc_lang.specs.Trees.{ExprTree, number, difference, CondTree, either, both, comparison, count, Answer, a_query, a_cond, an_edit, Form, query_text, cond_text, edit_text}
+use Rattle.smc_lang.specs.Trees.{ExprTree, number, difference, CondTree, either, both, comparison, count, Answer, a_query, a_cond, an_edit, query_text, cond_text, edit_text}
 use Rattle.smc_lang.specs.Grammar.{Spells}
 use Rattle.smc_lang.specs.Laws.{IsSpelled}
 

@@ -1,6 +1,6 @@
 -- The grammar of query text. Each rule says of a list of tokens what a front of it spells and which tokens are left.
 -- The number is how many brackets, parentheses, `not` and unary minus may at most be open at one place.
-use Rattle.std.specs.Prelude.{ℕ, suc, Bool, true, false, List, [], ◌∷◌, ◌++◌, Option, Some, None}
+use Rattle.std.specs.Prelude.{ℕ, suc, true, false, List, [], ◌∷◌, ◌++◌, Option, Some, None}
 use Rattle.smc_tokens.specs.declared.token.Token.{Token}
 use Rattle.smc_tokens.specs.declared.token.Token.TheVariants.{Name, Word, Date, Number, Text, Sign}
 use Rattle.smc_tokens.specs.declared.reserved.Reserved.{Reserved}

@@ -1,5 +1,5 @@
 -- Queries as trees alone, without where in memory their parts stand.
-use Rattle.std.specs.Prelude.{ℕ, Bool, List, [], ◌∷◌, map, Option, Some, None}
+use Rattle.std.specs.Prelude.{ℕ, Bool, List, map, Option, Some, None}
 use Rattle.smc_lang.specs.declared.path.Path.{Path}
 use Rattle.smc_lang.specs.declared.expr.Expr.{Expr}
 use Rattle.smc_lang.specs.declared.expr.Expr.TheVariants.{Number, Date, Text, Field, Add', Sub', Mul', Minus'}

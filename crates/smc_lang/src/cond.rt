@@ -17,14 +17,6 @@ pub enum Cond {
     Or(Box<Cond>, Box<Cond>),
     And(Box<Cond>, Box<Cond>),
     Not(Box<Cond>),
-    Compare {
-        op: Op,
-        left: Expr,
-        right: Expr,
-    },
-    Between {
-        value: Expr,
-        low: Expr,
-        high: Expr,
-    },
+    Compare { op: Op, left: Expr, right: Expr },
+    Between { value: Expr, low: Expr, high: Expr },
 }

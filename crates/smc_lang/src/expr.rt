@@ -5,15 +5,8 @@ use smc_tokens::Quoted;
 #[derive(Debug, Drop)]
 pub enum Expr {
     /// So many units, of which ten to the power of `decimals` make one.
-    Number {
-        units: u64,
-        decimals: u32,
-    },
-    Date {
-        year: u32,
-        month: u32,
-        day: u32,
-    },
+    Number { units: u64, decimals: u32 },
+    Date { year: u32, month: u32, day: u32 },
     Text(Quoted),
     Field(Path),
     Add(Box<Expr>, Box<Expr>),

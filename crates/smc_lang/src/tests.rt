@@ -1,6 +1,4 @@
-use crate::{
-    Cond, Expr, Item, ItemCall, Items, Names, Op, Path, Paths, Query, SortKey, SortKeys,
-};
+use crate::{Cond, Expr, Item, ItemCall, Items, Names, Op, Path, Paths, Query, SortKey, SortKeys};
 use smc_tokens::Name;
 use std::alloc::Global;
 use std::test::Fail;

@@ -39,6 +39,8 @@ impl Name {
     pub fn copied(&self, alloc: Global) -> Result<Name, NoMemory>
         ensures { IfOk result (λ name. name ≡ self.now) }
     {
-        Ok(Name { text: String::from_str(alloc, self.text.as_str())? })
+        Ok(Name {
+            text: String::from_str(alloc, self.text.as_str())?,
+        })
     }
 }

@@ -39,6 +39,8 @@ impl Quoted {
     pub fn copied(&self, alloc: Global) -> Result<Quoted, NoMemory>
         ensures { IfOk result (λ text. text ≡ self.now) }
     {
-        Ok(Quoted { text: String::from_str(alloc, self.text.as_str())? })
+        Ok(Quoted {
+            text: String::from_str(alloc, self.text.as_str())?,
+        })
     }
 }
