@@ -1,0 +1,7 @@
+mod MarkLaws
+mod OutcomeLaws
+mod PlanTexts
+mod Deeper
+mod StopLaws
+mod GrammarLaws
+mod ExampleLaws
