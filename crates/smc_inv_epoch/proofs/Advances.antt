@@ -44,7 +44,7 @@ module _ (shape : Layout) (state : State) (pass : ℕ) (h : Epochs shape state) 
 
   -- an advance looks at the section word of a pass (8)
   pub advancing : (section : Section) (from other : ℕ) → stand.section ≡ section → stand.phase ≡ phase.Advancing from other
-      → IfSome (go_offer pass stand section (phase.Advancing from other)) (Pays shape state pass h within valid section (phase.Advancing from other) Go)
+      → IfSome (go_offer pass stand section (phase.Advancing from other)) (Pays shape state pass section (phase.Advancing from other) Go)
   advancing section from other at at_phase = record {
     fits = λ u. there;
     moves = λ told w is. by_word w (is refl) (plain_of w == 0 || plain_of w == from) refl;
@@ -76,7 +76,7 @@ module _ (shape : Layout) (state : State) (pass : ℕ) (h : Epochs shape state) 
 
   -- an advance moves the epoch on, or was overtaken (9)
   pub ready : (section : Section) (from : ℕ) → stand.section ≡ section → stand.phase ≡ phase.Ready from
-      → IfSome (go_offer pass stand section (phase.Ready from)) (Pays shape state pass h within valid section (phase.Ready from) Go)
+      → IfSome (go_offer pass stand section (phase.Ready from)) (Pays shape state pass section (phase.Ready from) Go)
   ready section from at at_phase = record {
     fits = λ u. (tt, omega (arith, last), omega (arith, last));
     moves = λ told w is. by_epoch (ready_seen from (plain_of w)).phase (idle (plain_of w) (plain_of w == from)) (same_word (memory place.Epoch) (word.Plain from)) refl;
@@ -110,8 +110,8 @@ module _ (shape : Layout) (state : State) (pass : ℕ) (h : Epochs shape state) 
           (calm_advance shape (epoch_of_region raised) next calm) (λ i lt. calm_passed i (state.stands i).section next calm)
 
   -- the first step of an advance (7)
-  pub begins_advance : (section : Section) → stand.section ≡ section → IfSome (start_offer shape pass stand section call.Advance) (Pays shape state pass h within valid section phase.Idle (Start call.Advance))
-  begins_advance section at = if_outside (Pays shape state pass h within valid section phase.Idle (Start call.Advance)) section _ (λ is. record {
+  pub begins_advance : (section : Section) → stand.section ≡ section → IfSome (start_offer shape pass stand section call.Advance) (Pays shape state pass section phase.Idle (Start call.Advance))
+  begins_advance section at = if_outside (Pays shape state pass section phase.Idle (Start call.Advance)) section _ (λ is. record {
     fits = λ u. tt;
     moves = λ told w is. by_word w (is refl) (plain_of w == LAST_EPOCH) refl;
   })

@@ -31,7 +31,7 @@ module _ (shape : Layout) (state : State) (pass : ℕ) (h : Epochs shape state) 
   epoch = epoch_of_region memory
 
   -- the steps of enter, each by how far it has come (2, 3, 4, 5)
-  pub entering : (section : Section) → stand.section ≡ section → IfSome (go_offer pass stand section phase.Entering) (Pays shape state pass h within valid section phase.Entering Go)
+  pub entering : (section : Section) → stand.section ≡ section → IfSome (go_offer pass stand section phase.Entering) (Pays shape state pass section phase.Entering Go)
   entering Outside at = tt
   entering (Inside own calm) at = tt
   entering (Loaded v) at = let f = own_fits shape state pass h within valid (Loaded v) at in record {
@@ -64,8 +64,8 @@ module _ (shape : Layout) (state : State) (pass : ℕ) (h : Epochs shape state) 
   }
 
   -- the first step of enter (1)
-  pub begins_enter : (section : Section) → stand.section ≡ section → IfSome (start_offer shape pass stand section call.Enter) (Pays shape state pass h within valid section phase.Idle (Start call.Enter))
-  begins_enter section at = if_outside (Pays shape state pass h within valid section phase.Idle (Start call.Enter)) section _ (λ is. let f = own_fits shape state pass h within valid Outside (at ∙ is) in record {
+  pub begins_enter : (section : Section) → stand.section ≡ section → IfSome (start_offer shape pass stand section call.Enter) (Pays shape state pass section phase.Idle (Start call.Enter))
+  begins_enter section at = if_outside (Pays shape state pass section phase.Idle (Start call.Enter)) section _ (λ is. let f = own_fits shape state pass h within valid Outside (at ∙ is) in record {
     fits = λ u. tt;
     moves = λ told w is.
         let now : plain_of w ≡ epoch = ap plain_of (is refl) in
@@ -75,8 +75,8 @@ module _ (shape : Layout) (state : State) (pass : ℕ) (h : Epochs shape state) 
   })
 
   -- leave (6)
-  pub begins_leave : (section : Section) → stand.section ≡ section → IfSome (start_offer shape pass stand section call.Leave) (Pays shape state pass h within valid section phase.Idle (Start call.Leave))
-  begins_leave section at = if_inside (Pays shape state pass h within valid section phase.Idle (Start call.Leave)) section _ (λ own calm is. record {
+  pub begins_leave : (section : Section) → stand.section ≡ section → IfSome (start_offer shape pass stand section call.Leave) (Pays shape state pass section phase.Idle (Start call.Leave))
+  begins_leave section at = if_inside (Pays shape state pass section phase.Idle (Start call.Leave)) section _ (λ own calm is. record {
     fits = λ u. (within, omega arith);
     moves = λ told w is. section_moves shape state pass h within _ Outside phase.Idle refl (stored_words shape state pass h within 0)
         (outside_fits epoch _ (stored_own shape state pass h within 0)) refl (λ i lt own from none. cc);

@@ -26,9 +26,9 @@ module _ (shape : Layout) (valid : IsShape shape) where
   -- what an offered step pays
   paid : (state : State) (pass : ℕ) (choice : Choice) (offered : Offer) (within : pass < shape.passes) (h : Epochs shape state)
       → stand_offer shape pass (state.stands pass) choice ≡ Some offered
-      → Pays shape state pass h within valid (state.stands pass).section (state.stands pass).phase choice offered
+      → Pays shape state pass (state.stands pass).section (state.stands pass).phase choice offered
   paid state pass choice offered within h offers =
-      subst (λ o. IfSome o (Pays shape state pass h within valid (state.stands pass).section (state.stands pass).phase choice)) offers (pays shape state pass h within valid choice)
+      subst (λ o. IfSome o (Pays shape state pass (state.stands pass).section (state.stands pass).phase choice)) offers (pays shape state pass h within valid choice)
 
   -- each step keeps the epoch rule
   pub epochs-kept : IsKept shape is_first (Epochs shape)

@@ -33,6 +33,13 @@ use Rattle.smc_inv_epoch.proofs.Owed.{quiet_moves}
 use Rattle.smc_inv_epoch.proofs.Quiet as Q
 use Rattle.smc_inv_epoch.proofs.Offers.{far-leaves, Fits}
 
+module _ (shape : Layout) (state : State) (pass : ℕ) where
+  -- what an offered step pays: its operation fits, and what the step owes, whatever is shown by a word that nobody asks for
+  pub record Pays (section : Section) (call : Phase) (choice : Choice) (o : Offer) : Type 0 where
+    pub fits : Fits shape o
+    pub moves : (told : ℕ) (w : Word) → (IsTrue (is_first (place_of o.op)) → w ≡ seen o.op state.memory)
+        → Moves shape state pass (apply o.op state.memory) (section_after section call choice w) (change shape pass (state.stands pass) section call choice told w).phase
+
 module _ (shape : Layout) (state : State) (pass : ℕ) (h : Epochs shape state) (within : pass < shape.passes) (valid : IsShape shape) where
   abbrev memory : Memory
   memory = state.memory
@@ -43,12 +50,6 @@ module _ (shape : Layout) (state : State) (pass : ℕ) (h : Epochs shape state) 
   abbrev epoch : ℕ
   epoch = epoch_of_region memory
 
-  -- what an offered step pays: its operation fits, and what the step owes, whatever is shown by a word that nobody asks for
-  pub record Pays (section : Section) (call : Phase) (choice : Choice) (o : Offer) : Type 0 where
-    pub fits : Fits shape o
-    pub moves : (told : ℕ) (w : Word) → (IsTrue (is_first (place_of o.op)) → w ≡ seen o.op memory)
-        → Moves shape state pass (apply o.op memory) (section_after section call choice w) (change shape pass stand section call choice told w).phase
-
   -- what is known of the own section, in the form that it has
   pub own_fits : (section : Section) → stand.section ≡ section → SectionFits epoch (announced_by memory pass) section
   own_fits section at = subst (SectionFits epoch (announced_by memory pass)) at (section_fits shape state pass h within)
@@ -56,7 +57,7 @@ module _ (shape : Layout) (state : State) (pass : ℕ) (h : Epochs shape state) 
   -- a step of a call that has nothing to do with epochs
   pub quiet : (section : Section) (call : Phase) (choice : Choice) (o : Offer) → stand.section ≡ section
       → Fits shape o → IsTrue (Q.leaves o.op) → ((w : Word) → section_after section call choice w ≡ section)
-      → ((told : ℕ) (w : Word) → Q.Calm (change shape pass stand section call choice told w)) → Pays section call choice o
+      → ((told : ℕ) (w : Word) → Q.Calm (change shape pass stand section call choice told w)) → Pays shape state pass section call choice o
   quiet section call choice o at fits left same calm = record {
     fits = fits;
     moves = λ told w is. subst (λ s. Moves shape state pass (apply o.op memory) s (change shape pass stand section call choice told w).phase) (sym (same w))
@@ -66,7 +67,7 @@ module _ (shape : Layout) (state : State) (pass : ℕ) (h : Epochs shape state) 
   -- such a step on a word of an object or a slot
   pub far : (section : Section) (call : Phase) (choice : Choice) (o : Offer) → stand.section ≡ section
       → is_first (place_of o.op) ≡ false → ((w : Word) → section_after section call choice w ≡ section)
-      → ((told : ℕ) (w : Word) → Q.Calm (change shape pass stand section call choice told w)) → Pays section call choice o
+      → ((told : ℕ) (w : Word) → Q.Calm (change shape pass stand section call choice told w)) → Pays shape state pass section call choice o
   far section call choice o at away same calm = quiet section call choice o at (λ u. cc) (far-leaves o.op away) same calm
 
   -- one offer or another
