@@ -1,12 +1,15 @@
 //! The automaton of one pass, running: what the pass may do next, and what a step changes of it.
 //!
-//! `offer` and `change` choose by the call, `start` has the first step of each call, and a file for each call (`look`,
-//! `add`, `begin` ..) the steps that follow; `effect` has what a step makes of a pass's lists, `after` of its other
-//! parts, and `laws` what ranges each step keeps. It stands on the machine's definitions, and on nothing that runs in a
-//! region. Callers may rely on it that every answer is that of the definitions.
+//! `offer` and `change` choose by the call; `start` and `started` have the first step of each call, and `ask` what it
+//! asks. The steps that follow have a file for each call: `section`, `advance`, `look` (with `find` and `copy`), `add`
+//! (with `claim`), `remove`, `scan`, `count`, `begin` (with `walk`), `finish` (with `targets`) and `cancel`, over what
+//! `op`, `step`, `seen` and `size` share. `effect` says what a step makes of a pass's lists, `after` of its other
+//! parts, and `laws` which ranges each step keeps.
 //!
-//! The meaning is in the crate of the definitions. Here `specs` say only the ranges that keep sums from passing their
-//! types: `Fits` and `FitsPhase` of a pass, `FitsWord` of the words of a region; `Effects` says how an effect applies.
+//! It stands on the machine's definitions and touches no region: it is told what a step was shown, and only the last
+//! step of an add takes memory. Callers may rely on it that every answer is that of the definitions. Here `specs` say
+//! only the ranges that keep sums from passing their types: `Fits` and `FitsPhase` of a pass, `FitsWord` of the words
+//! of a region; and `Effects` says how an effect applies to a list.
 #![tactic(auto)]
 
 mod add;
