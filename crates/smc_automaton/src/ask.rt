@@ -1,6 +1,6 @@
 //! What a call asks of its collection and of its section before it may be made.
 ghost use Rattle.std.specs.Prelude.{◌≡◌};
-ghost use Rattle.smc_core.specs.Add.{has_no_blank, takes};
+ghost use Rattle.smc_core.specs.Add.{has_no_blank, is_value, takes};
 ghost use Rattle.smc_core.specs.Offer.{held_slot};
 
 use crate::seen::same_number;
@@ -11,12 +11,19 @@ use smc_shape::Shape;
 use smc_words::{BLANK, Number};
 use std::collections::LinkedList;
 
-/// No word of the record is blank.
+/// Whether a word may stand in a field of an object: the largest one, which is the blank one, may not.
+pub(crate) fn is_value(word: u64) -> bool
+    ensures { result ≡ is_value word }
+{
+    word < BLANK
+}
+
+/// Whether each word of the record may.
 fn has_no_blank(words: &[u64]) -> bool
     ensures { result ≡ has_no_blank words.now }
 {
     for word in words {
-        if *word == BLANK {
+        if !is_value(*word) {
             return false;
         }
     }

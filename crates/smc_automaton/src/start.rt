@@ -1,6 +1,7 @@
 //! The first step of each call, where the call may be made.
-ghost use Rattle.std.specs.Prelude.{◌≡◌, ◌≤◌, ◌==◌, ◌&&◌, nat_lt, not};
+ghost use Rattle.std.specs.Prelude.{◌≡◌, ◌≤◌, ◌&&◌, nat_lt};
 ghost use Rattle.smc_shape.specs.Layout.{width_of};
+ghost use Rattle.smc_core.specs.Add.{is_value};
 ghost use Rattle.smc_core.specs.Cancel.{cancel_offer};
 ghost use Rattle.smc_core.specs.Finish.{finish_start};
 ghost use Rattle.smc_core.specs.Offer.{when_outside, when_inside, when_held, when_begun, when_owned, look_start, start_offer};
@@ -8,7 +9,7 @@ ghost use Rattle.smc_core.specs.Scan.{next_offer};
 ghost use Rattle.smc_core.specs.Step.{step, when};
 ghost use Rattle.smc_automaton.specs.Fits.{FitsOwned, FitsStand};
 
-use crate::ask::{held_slot, takes};
+use crate::ask::{held_slot, is_value, takes};
 use crate::begin::round_offer;
 use crate::cancel::cancel_offer;
 use crate::count::{count_offer, first_count};
@@ -22,7 +23,7 @@ use smc_core::{
     Call, CancelPhase, LAST_EPOCH, LookPhase, Offer, Op, Owned, Scan, Section, Seeker, Stand, Word,
 };
 use smc_shape::{Place, Shape};
-use smc_words::{BLANK, Number};
+use smc_words::Number;
 
 /// It is offered outside a section.
 fn when_outside(section: Section, offer: Offer) -> Option<Offer>
@@ -102,13 +103,13 @@ fn write_start(
     field: u32,
     value: u64,
 ) -> Option<Offer>
-    ensures { result ≡ when_held held (λ slot. when (nat_lt field (width_of shape.now number.coll) && not (value == BLANK))
+    ensures { result ≡ when_held held (λ slot. when (nat_lt field (width_of shape.now number.coll) && is_value value)
         (step 20 (Op.Store (Place.Field number.coll slot field) (Word.Plain value)))) }
 {
     match held {
         None => None,
         Some(slot) => when(
-            field < width_of(shape, number.coll) && value != BLANK,
+            field < width_of(shape, number.coll) && is_value(value),
             store(20, field_of(number.coll, slot, field), Word::Plain(value)),
         ),
     }
