@@ -27,18 +27,25 @@ only-told shape m pass choice old new next one = record { step = one.step; leads
 -- one more step is played
 pub Plays-one : (shape : Layout) (first : Machine) (steps : List (ℕ × Choice)) (old new : List Event) (middle last : Machine) (pass : ℕ) (choice : Choice)
     → Plays shape first steps old middle → PlaysOne shape middle pass choice old new last → Plays shape first (steps ++ (pass, choice) ∷ []) new last
-Plays-one shape first [] old new middle last pass choice played one =
-    (last, option_to_list one.step.event, [],
-      subst (λ (m : Machine). PlaysOne shape m pass choice [] (option_to_list one.step.event) last) (sym played.0) (only-told shape middle pass choice old new last one),
-      (refl, refl),
-      one.events ∙ ap (λ (l : List Event). l ++ option_to_list one.step.event) played.1 ∙ sym (append-nil (option_to_list one.step.event)))
+Plays-one shape first [] old new middle last pass choice played one = (
+  last,
+  option_to_list one.step.event,
+  [],
+  subst (λ (m : Machine). PlaysOne shape m pass choice [] (option_to_list one.step.event) last) (sym played.0) (only-told shape middle pass choice old new last one),
+  (refl, refl),
+  one.events ∙ ap (λ (l : List Event). l ++ option_to_list one.step.event) played.1 ∙ sym (append-nil (option_to_list one.step.event)),
+)
 Plays-one shape first (line ∷ later) old new middle last pass choice played one =
     let rest : List Event = played.2 in
     let more : PlaysOne shape middle pass choice rest (rest ++ option_to_list one.step.event) last =
-    record { step = one.step; leads = one.leads; tells = one.tells; events = refl } in
-    (played.0, played.1, rest ++ option_to_list one.step.event, played.3,
+    record { step = one.step; leads = one.leads; tells = one.tells; events = refl } in (
+      played.0,
+      played.1,
+      rest ++ option_to_list one.step.event,
+      played.3,
       Plays-one shape played.0 later rest (rest ++ option_to_list one.step.event) middle last pass choice played.4 more,
-      one.events ∙ ap (λ (l : List Event). l ++ option_to_list one.step.event) played.5 ∙ append_assoc played.1 rest (option_to_list one.step.event))
+      one.events ∙ ap (λ (l : List Event). l ++ option_to_list one.step.event) played.5 ∙ append_assoc played.1 rest (option_to_list one.step.event),
+    )
 
 -- what is played leads on
 pub Plays-leads : (shape : Layout) (first : Machine) (steps : List (ℕ × Choice)) (events : List Event) (last : Machine)

@@ -16,7 +16,6 @@ mod kept;
 pub mod laws;
 mod machine;
 mod pass;
-
 mod row;
 mod scans;
 mod schedule;
