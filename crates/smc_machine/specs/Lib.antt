@@ -2,6 +2,7 @@ pub mod Added
 pub mod Chosen
 pub mod Faults
 pub mod Kept
+pub mod Plays
 pub mod Rows
 pub mod Running
 pub mod Words

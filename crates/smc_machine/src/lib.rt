@@ -1,6 +1,6 @@
 //! The machine that runs: the plain program of the machine's definitions, one atomic step at a time.
 //!
-//! `machine` has `Machine`, which is opened and stepped here; `row` has the numbers of a region, which `word` packs and
+//! `machine` has `Machine`, which is opened and stepped here, and `schedule` plays schedules on it; `row` has the numbers of a region, which `word` packs and
 //! reads; `pass` has what one pass knows: `stand` and `scans` where it stands, `kept` what only grows, `told` what the
 //! other passes allow. `grow` and `event` take the memory of a step before the step changes anything. It stands on the
 //! definitions and on the automaton of one pass. Callers may rely on it that each step is that of the definitions, that
@@ -18,10 +18,12 @@ mod machine;
 mod pass;
 mod row;
 mod scans;
+mod schedule;
 mod stand;
 mod step;
 mod told;
 mod word;
 
 pub use machine::Machine;
-pub use step::{MOST_BEGUN, Step, StepFault};
+pub use schedule::play;
+pub use step::{MOST_BEGUN, PlayFault, Step, StepFault};

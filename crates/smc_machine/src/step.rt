@@ -25,3 +25,10 @@ pub enum StepFault {
     /// Memory was refused.
     NoMemory,
 }
+
+/// A step of a schedule that was refused: how many were taken before it, and why.
+#[derive(Clone, Copy, Debug, PartialEq, Eq)]
+pub struct PlayFault {
+    pub at: u64,
+    pub fault: StepFault,
+}
