@@ -41,10 +41,10 @@ module _ (shape : Layout) (valid : IsShape shape) where
   }
 
   -- at first no pass is in a section, and none advances
-  epochs-first : (opening : Opening) → IsOpening opening → Epochs shape (first_state shape opening)
+  pub epochs-first : (opening : Opening) → IsOpening opening → Epochs shape (first_state shape opening)
   epochs-first opening o = record { rule = epoch-first shape opening o; agrees = epoch_agreement-first shape opening o }
 
-  first-suits : (opening : Opening) → IsOpening opening → (there : Place) → IsTrue (is_first there) → Suits there (first_word opening there)
+  pub first-suits : (opening : Opening) → IsOpening opening → (there : Place) → IsTrue (is_first there) → Suits there (first_word opening there)
   first-suits opening o place.Epoch u = let last = o.last in omega arith
   first-suits opening o place.Round u = tt
   first-suits opening o (place.Section pass) u = omega arith

@@ -6,5 +6,9 @@ pub mod Pays
 pub mod Enters
 pub mod Advances
 pub mod EachKind
+pub mod RoundMoves
+pub mod Strangers
+pub mod RoundKinds
 pub mod Openings
 pub mod EveryList
+pub mod RoundLaws

@@ -1,5 +1,6 @@
 //! Each function is a theorem over the definitions in `specs`, and does nothing.
 ghost use Rattle.smc_inv_epoch.specs.Epochs.{EpochsAreKept, EpochRuleHolds, HoldsAfter};
+ghost use Rattle.smc_inv_epoch.specs.Rounds.{RoundsAreKept, RoundWordRuleHolds};
 ghost use Rattle.smc_core.specs.Schedules.{announces_twice, helped};
 
 use smc_core::laws::schedules_are_reached;
@@ -22,3 +23,13 @@ pub fn epoch_rule_holds_after_worked_schedules()
 {
     schedules_are_reached();
 }
+
+/// Every step keeps what the round word tells, and what that needs.
+pub fn rounds_are_kept()
+    ensures { RoundsAreKept }
+{}
+
+/// After every list of steps the round word names the one pass that owns a round, and no calm section is past its bound.
+pub fn round_word_rule_holds()
+    ensures { RoundWordRuleHolds }
+{}

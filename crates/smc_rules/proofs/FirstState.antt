@@ -67,8 +67,7 @@ module _ (shape : Layout) (opening : Opening) (o : IsOpening opening) where
   relocation-first = record {
     calm_bound = λ pass own round lt is at. absurd (cc);
     round_owner = record {
-      owner = λ round is. absurd (cc);
-      only = λ round pass owned is lt owns. absurd (cc);
+      names = record { owner = λ round is. absurd (cc); only = λ round pass owned is lt owns. absurd (cc) };
       no_round = λ coll slot lt is incoming. cc;
       of_its_coll = λ round coll slot lt is incoming. absurd (cc);
       none_while_it_counts = λ round slot lt is counts incoming. cc;

@@ -7,3 +7,4 @@ pub mod EpochAgreement
 pub mod Calls
 pub mod SlotRule
 pub mod RelocationRule
+pub mod RoundAgreement

@@ -1,6 +1,6 @@
 -- The relocation rule: what becomes of objects that a round moves, and of those who read them meanwhile.
 --
--- The definition alone: that it holds after every list of steps is not yet proved.
+-- Proved after every list of steps are `CalmBound` and `NamesOwner`; the rest is the definition alone.
 use Rattle.std.specs.Prelude.{◌≡◌, ◌≢◌, ◌⊎◌, ℕ, ◌+◌, ◌<◌, ◌≤◌, ⊤, true, IsTrue, IsFalse, Option, Some, None, Contains}
 use Rattle.smc_words.specs.declared.dir.Dir.{Dir}
 use Rattle.smc_words.specs.declared.dir.Dir.TheVariants as dir
@@ -68,12 +68,16 @@ abbrev pub CalmBound : Layout → S.State → Type 0
 CalmBound shape s = (pass own : ℕ) (round : RoundWord) → pass < shape.passes → (s.stands pass).section ≡ Inside own true
     → round_in s.memory ≡ Some round → own ≤ round.bound
 
--- the round word names the one pass that owns a round, and objects are to move in its collection alone
-pub record RoundOwner (shape : Layout) (s : S.State) : Type 0 where
+-- the round word names the one pass that owns a round
+pub record NamesOwner (shape : Layout) (s : S.State) : Type 0 where
   pub owner : (round : RoundWord) → round_in s.memory ≡ Some round
       → (round.pass < shape.passes) × ((s.stands round.pass).round ≡ Some (record { bound = round.bound; coll = round.coll }))
   pub only : (round : RoundWord) (pass : ℕ) (owned : Owned) → round_in s.memory ≡ Some round → pass < shape.passes
       → (s.stands pass).round ≡ Some owned → pass ≡ round.pass
+
+-- objects are to move in the collection of the round alone, and to slots that its owner has not yet passed
+pub record RoundOwner (shape : Layout) (s : S.State) : Type 0 where
+  pub names : NamesOwner shape s
   pub no_round : (coll slot : ℕ) → slot < slots_of shape coll → round_in s.memory ≡ None → dir_in s.memory coll slot ≢ dir.Incoming
   pub of_its_coll : (round : RoundWord) (coll slot : ℕ) → slot < slots_of shape coll → round_in s.memory ≡ Some round
       → IsIncoming s.memory coll slot → coll ≡ round.coll
