@@ -1,31 +1,11 @@
 -- A step of a survey, a begin, a finish or a cancel leaves the call in its ranges.
-use Rattle.std.proofs.Common.{◌≡◌, ◌<◌, ◌≤◌, ◌+◌, ◌*◌, ◌/◌, ◌-◌, ◌==◌, ◌&&◌, ◌||◌, ℕ, Bool, true, false, not, nat_lt, nat_le, Option, Some, None, List, [], ◌∷◌, length, refl, sym, subst, arith, inl, inr, if◌then◌else◌, ap}
-use Rattle.std.proofs.lemmas.Bool.{ltb-true, eqb-true, leb-true, and_parts, cond_both, cases_lt}
-use Rattle.std.proofs.lemmas.List.{get_or_past}
-use Rattle.std.proofs.lemmas.List.Elements.{All-nil, All-cons, All-head, All-tail}
-use Rattle.smc_words.specs.declared.layout.TheConstants.{COLLECTIONS, ENTRIES, EPOCHS, INCARNATIONS, PASSES}
-use Rattle.smc_words.specs.declared.dir.Dir.{Dir}
-use Rattle.smc_words.specs.declared.dir.Dir.TheVariants as dir
+use Rattle.std.proofs.Common.{◌<◌, ◌≤◌, ◌+◌, ◌*◌, ◌==◌, ℕ, Bool, true, false, nat_lt, nat_le, Option, Some, None, List, arith}
+use Rattle.std.proofs.lemmas.Bool.{ltb-true, eqb-true, cond_both}
+use Rattle.smc_words.specs.declared.layout.TheConstants.{ENTRIES}
 use Rattle.smc_words.specs.declared.number.Number.{Number}
-use Rattle.smc_words.specs.declared.round.RoundWord.{RoundWord}
-use Rattle.smc_words.specs.Dir.{FitsDir}
 use Rattle.smc_words.specs.Number.{FitsNumber}
-use Rattle.smc_shape.proofs.PlaceLaws.{coll-small}
-use Rattle.smc_shape.specs.Layout.{Layout, Collection, IsShape, no_coll, coll_of, slots_of, entries_of, width_of}
-use Rattle.smc_shape.specs.declared.coll.TheConstants.{BLOCK_SLOTS, MAX_WIDTH}
-use Rattle.smc_shape.specs.declared.place.Place.TheVariants as place
-use Rattle.smc_core.specs.declared.call.Call.{Call}
-use Rattle.smc_core.specs.declared.call.Call.TheVariants as call
-use Rattle.smc_core.specs.declared.call.Choice.{Choice}
-use Rattle.smc_core.specs.declared.call.Choice.TheVariants.{Start, Go}
-use Rattle.smc_core.specs.declared.change.Change.{Change}
-use Rattle.smc_core.specs.declared.local.Held.{Held}
-use Rattle.smc_core.specs.declared.local.Owned.{Owned}
-use Rattle.smc_core.specs.declared.local.Scan.{Scan}
-use Rattle.smc_core.specs.declared.local.Stand.{Stand}
-use Rattle.smc_core.specs.declared.op.Offer.{Offer}
-use Rattle.smc_core.specs.declared.phase.Phase.{Phase}
-use Rattle.smc_core.specs.declared.phase.Phase.TheVariants as phase
+use Rattle.smc_shape.specs.Layout.{Layout, IsShape, slots_of, width_of}
+use Rattle.smc_shape.specs.declared.coll.TheConstants.{BLOCK_SLOTS}
 use Rattle.smc_core.specs.declared.phase.moves.BeginPhase.{BeginPhase}
 use Rattle.smc_core.specs.declared.phase.moves.BeginPhase.TheVariants as begin
 use Rattle.smc_core.specs.declared.phase.moves.CancelPhase.{CancelPhase}
@@ -39,39 +19,22 @@ use Rattle.smc_core.specs.declared.phase.moves.FinishPhase.{FinishPhase}
 use Rattle.smc_core.specs.declared.phase.moves.FinishPhase.TheVariants as finish
 use Rattle.smc_core.specs.declared.phase.moves.Targets.{Targets}
 use Rattle.smc_core.specs.declared.phase.moves.Walk.{Walk}
-use Rattle.smc_core.specs.declared.phase.objects.AddPhase.{AddPhase}
-use Rattle.smc_core.specs.declared.phase.objects.AddPhase.TheVariants as add
 use Rattle.smc_core.specs.declared.phase.objects.CopyPhase.{CopyPhase}
 use Rattle.smc_core.specs.declared.phase.objects.CopyPhase.TheVariants as copy
-use Rattle.smc_core.specs.declared.phase.objects.Finding.{Finding}
-use Rattle.smc_core.specs.declared.phase.objects.Finding.TheVariants.{Absent, Stays, Abandons, Helps}
-use Rattle.smc_core.specs.declared.phase.objects.LookPhase.{LookPhase}
-use Rattle.smc_core.specs.declared.phase.objects.LookPhase.TheVariants as look
-use Rattle.smc_core.specs.declared.phase.objects.RemovePhase.{RemovePhase}
-use Rattle.smc_core.specs.declared.phase.objects.RemovePhase.TheVariants as remove
-use Rattle.smc_core.specs.declared.phase.objects.ScanPhase.{ScanPhase}
-use Rattle.smc_core.specs.declared.phase.objects.ScanPhase.TheVariants as scan
-use Rattle.smc_core.specs.declared.phase.objects.Seeker.{Seeker}
-use Rattle.smc_core.specs.declared.phase.objects.Seeker.TheVariants as seeker
-use Rattle.smc_core.specs.declared.section.Section.{Section}
-use Rattle.smc_core.specs.declared.section.Section.TheVariants.{Outside, Loaded, Announced, Again, Lasting, Inside}
-use Rattle.smc_core.specs.declared.section.TheConstants.{LAST_EPOCH}
 use Rattle.smc_core.specs.declared.word.State.{State}
 use Rattle.smc_core.specs.declared.word.State.TheVariants as state
 use Rattle.smc_core.specs.declared.word.Word.{Word}
 use Rattle.smc_core.specs.declared.word.Word.TheVariants as word
-use Rattle.smc_core.specs.Row.{FitsState, has_place}
-use Rattle.smc_core.specs.Words.{plain_of, state_of, dir_of, back_of, forward_of, same_word, has_object_at}
-use Rattle.smc_core.specs.Ripe.{is_ripe_slot, is_ripe_entry, is_ripe, next_round}
-use Rattle.smc_core.specs.Look.{copy_offer, copy_field, copy_next, look_offer, find, find_after_abandon, find_after_swing, help_finding, look_finding, passes, look_change, seeker_of, sought_number, looking_change}
-use Rattle.smc_automaton.specs.Fits.{FitsSection, FitHeld, FitsOwned, FitsStand}
-use Rattle.smc_automaton.specs.FitsPhase.{HasIncarnation, FitsCopy, FitsSeeker, FitsLook, HasWords, FitsAdd, FitsRemove, FitsScan, FitsCount, FitsCounting, FitsWalk, FitsTarget, FitsBegin, FitsTargets, FitsFinish, FitsCancel, FitsPhase}
-use Rattle.smc_automaton.specs.FitsWord.{FitsWord, FitsSeen}
-use Rattle.smc_automaton.proofs.SeenLaws.{width-limit, slot-index, entry-index, field-index, round-index, state-fits, dir-fits, OwnerFits, back-fits, forward-fits, epoch-fits, HoldsFit, ChangeFits}
-use Rattle.smc_core.specs.Begin.{begin_offer, to_source, next_source, to_target, past_target, with_move, first_walk, begin_counted, begin_counting, source_owner, blank_field, begin_change, is_source}
-use Rattle.smc_core.specs.Cancel.{cancel_offer, next_cancelled, cancel_owner, unfreeze, cancel_next, cancel_change}
+use Rattle.smc_core.specs.Row.{FitsState}
+use Rattle.smc_core.specs.Words.{state_of, dir_of, back_of, same_word, has_object_at}
+use Rattle.smc_core.specs.Ripe.{is_ripe_slot}
+use Rattle.smc_automaton.specs.FitsPhase.{HasIncarnation, FitsCount, FitsCounting, FitsWalk, FitsTarget, FitsBegin, FitsTargets, FitsFinish, FitsCancel}
+use Rattle.smc_automaton.specs.FitsWord.{FitsSeen}
+use Rattle.smc_automaton.proofs.SeenLaws.{slot-index, field-index, state-fits, dir-fits, OwnerFits, back-fits, ChangeFits}
+use Rattle.smc_core.specs.Begin.{begin_offer, to_source, next_source, to_target, past_target, with_move, first_walk, begin_counting, source_owner, blank_field, begin_change, is_source}
+use Rattle.smc_core.specs.Cancel.{cancel_offer, next_cancelled, cancel_owner, unfreeze, cancel_change}
 use Rattle.smc_core.specs.Count.{block_of, blocks_for, with_object, count_next, count_owner, counting, survey_change, is_valid}
-use Rattle.smc_core.specs.Finish.{finish_offer, next_target, with_moved, with_given_up, target_owner, give_up, frozen_slot, lock, «move», finish_next, finish_change, is_incoming}
+use Rattle.smc_core.specs.Finish.{finish_offer, next_target, with_moved, with_given_up, target_owner, frozen_slot, lock, «move», finish_next, finish_change, is_incoming}
 use Rattle.smc_automaton.proofs.LookLaws.{copy_next-fits}
 
 count-weaker : (slot : ℕ) (count : Count) → FitsCount slot count → FitsCount (slot + 1) count

@@ -1,77 +1,34 @@
 -- A step of an add, a remove or a scan leaves the call in its ranges.
-use Rattle.std.proofs.Common.{◌≡◌, ◌<◌, ◌≤◌, ◌+◌, ◌*◌, ◌/◌, ◌-◌, ◌==◌, ◌&&◌, ◌||◌, ℕ, Bool, true, false, not, nat_lt, nat_le, Option, Some, None, List, [], ◌∷◌, length, refl, sym, subst, arith, inl, inr, if◌then◌else◌, ap}
-use Rattle.std.proofs.lemmas.Bool.{ltb-true, eqb-true, leb-true, and_parts, cond_both, cases_lt}
-use Rattle.std.proofs.lemmas.List.{get_or_past}
-use Rattle.std.proofs.lemmas.List.Elements.{All-nil, All-cons, All-head, All-tail}
-use Rattle.smc_words.specs.declared.layout.TheConstants.{COLLECTIONS, ENTRIES, EPOCHS, INCARNATIONS, PASSES}
+use Rattle.std.proofs.Common.{◌≡◌, ◌<◌, ◌+◌, ℕ, true, false, not, nat_lt, Option, Some, None, List, arith}
+use Rattle.std.proofs.lemmas.Bool.{ltb-true, and_parts, cond_both}
+use Rattle.smc_words.specs.declared.layout.TheConstants.{COLLECTIONS, ENTRIES, INCARNATIONS}
 use Rattle.smc_words.specs.declared.dir.Dir.{Dir}
-use Rattle.smc_words.specs.declared.dir.Dir.TheVariants as dir
 use Rattle.smc_words.specs.declared.number.Number.{Number}
-use Rattle.smc_words.specs.declared.round.RoundWord.{RoundWord}
 use Rattle.smc_words.specs.Dir.{FitsDir}
 use Rattle.smc_words.specs.Number.{FitsNumber}
 use Rattle.smc_shape.proofs.PlaceLaws.{coll-small}
-use Rattle.smc_shape.specs.Layout.{Layout, Collection, IsShape, no_coll, coll_of, slots_of, entries_of, width_of}
-use Rattle.smc_shape.specs.declared.coll.TheConstants.{BLOCK_SLOTS, MAX_WIDTH}
-use Rattle.smc_shape.specs.declared.place.Place.TheVariants as place
-use Rattle.smc_core.specs.declared.call.Call.{Call}
-use Rattle.smc_core.specs.declared.call.Call.TheVariants as call
-use Rattle.smc_core.specs.declared.call.Choice.{Choice}
-use Rattle.smc_core.specs.declared.call.Choice.TheVariants.{Start, Go}
-use Rattle.smc_core.specs.declared.change.Change.{Change}
-use Rattle.smc_core.specs.declared.local.Held.{Held}
-use Rattle.smc_core.specs.declared.local.Owned.{Owned}
+use Rattle.smc_shape.specs.Layout.{Layout, IsShape, slots_of, entries_of, width_of}
 use Rattle.smc_core.specs.declared.local.Scan.{Scan}
-use Rattle.smc_core.specs.declared.local.Stand.{Stand}
-use Rattle.smc_core.specs.declared.op.Offer.{Offer}
-use Rattle.smc_core.specs.declared.phase.Phase.{Phase}
-use Rattle.smc_core.specs.declared.phase.Phase.TheVariants as phase
-use Rattle.smc_core.specs.declared.phase.moves.BeginPhase.{BeginPhase}
-use Rattle.smc_core.specs.declared.phase.moves.BeginPhase.TheVariants as begin
-use Rattle.smc_core.specs.declared.phase.moves.CancelPhase.{CancelPhase}
-use Rattle.smc_core.specs.declared.phase.moves.CancelPhase.TheVariants as cancel
-use Rattle.smc_core.specs.declared.phase.moves.Count.{Count}
-use Rattle.smc_core.specs.declared.phase.moves.Counting.{Counting}
-use Rattle.smc_core.specs.declared.phase.moves.Counting.TheVariants.{Walks, Counted}
-use Rattle.smc_core.specs.declared.phase.moves.CountPhase.{CountPhase}
-use Rattle.smc_core.specs.declared.phase.moves.CountPhase.TheVariants as walk
-use Rattle.smc_core.specs.declared.phase.moves.FinishPhase.{FinishPhase}
-use Rattle.smc_core.specs.declared.phase.moves.FinishPhase.TheVariants as finish
-use Rattle.smc_core.specs.declared.phase.moves.Targets.{Targets}
-use Rattle.smc_core.specs.declared.phase.moves.Walk.{Walk}
 use Rattle.smc_core.specs.declared.phase.objects.AddPhase.{AddPhase}
 use Rattle.smc_core.specs.declared.phase.objects.AddPhase.TheVariants as add
-use Rattle.smc_core.specs.declared.phase.objects.CopyPhase.{CopyPhase}
-use Rattle.smc_core.specs.declared.phase.objects.CopyPhase.TheVariants as copy
-use Rattle.smc_core.specs.declared.phase.objects.Finding.{Finding}
-use Rattle.smc_core.specs.declared.phase.objects.Finding.TheVariants.{Absent, Stays, Abandons, Helps}
-use Rattle.smc_core.specs.declared.phase.objects.LookPhase.{LookPhase}
-use Rattle.smc_core.specs.declared.phase.objects.LookPhase.TheVariants as look
 use Rattle.smc_core.specs.declared.phase.objects.RemovePhase.{RemovePhase}
 use Rattle.smc_core.specs.declared.phase.objects.RemovePhase.TheVariants as remove
 use Rattle.smc_core.specs.declared.phase.objects.ScanPhase.{ScanPhase}
 use Rattle.smc_core.specs.declared.phase.objects.ScanPhase.TheVariants as scan
-use Rattle.smc_core.specs.declared.phase.objects.Seeker.{Seeker}
-use Rattle.smc_core.specs.declared.phase.objects.Seeker.TheVariants as seeker
-use Rattle.smc_core.specs.declared.section.Section.{Section}
-use Rattle.smc_core.specs.declared.section.Section.TheVariants.{Outside, Loaded, Announced, Again, Lasting, Inside}
-use Rattle.smc_core.specs.declared.section.TheConstants.{LAST_EPOCH}
 use Rattle.smc_core.specs.declared.word.State.{State}
 use Rattle.smc_core.specs.declared.word.State.TheVariants as state
 use Rattle.smc_core.specs.declared.word.Word.{Word}
 use Rattle.smc_core.specs.declared.word.Word.TheVariants as word
-use Rattle.smc_core.specs.Row.{FitsState, has_place}
-use Rattle.smc_core.specs.Words.{plain_of, state_of, dir_of, back_of, forward_of, same_word, has_object_at}
-use Rattle.smc_core.specs.Ripe.{is_ripe_slot, is_ripe_entry, is_ripe, next_round}
-use Rattle.smc_core.specs.Look.{copy_offer, copy_field, copy_next, look_offer, find, find_after_abandon, find_after_swing, help_finding, look_finding, passes, look_change, seeker_of, sought_number, looking_change}
-use Rattle.smc_automaton.specs.Fits.{FitsSection, FitHeld, FitsOwned, FitsStand}
-use Rattle.smc_automaton.specs.FitsPhase.{HasIncarnation, FitsCopy, FitsSeeker, FitsLook, HasWords, FitsAdd, FitsRemove, FitsScan, FitsCount, FitsCounting, FitsWalk, FitsTarget, FitsBegin, FitsTargets, FitsFinish, FitsCancel, FitsPhase}
-use Rattle.smc_automaton.specs.FitsWord.{FitsWord, FitsSeen}
-use Rattle.smc_automaton.proofs.SeenLaws.{width-limit, slot-index, entry-index, field-index, round-index, state-fits, dir-fits, OwnerFits, back-fits, forward-fits, epoch-fits, HoldsFit, ChangeFits}
+use Rattle.smc_core.specs.Row.{FitsState}
+use Rattle.smc_core.specs.Words.{state_of, dir_of, back_of, same_word}
+use Rattle.smc_core.specs.Ripe.{is_ripe_slot, is_ripe_entry, is_ripe}
+use Rattle.smc_automaton.specs.FitsPhase.{HasIncarnation, HasWords, FitsAdd, FitsRemove, FitsScan}
+use Rattle.smc_automaton.specs.FitsWord.{FitsSeen}
+use Rattle.smc_automaton.proofs.SeenLaws.{slot-index, entry-index, field-index, round-index, state-fits, dir-fits, ChangeFits}
 use Rattle.std.proofs.lemmas.Bool.{or_parts, not-false}
-use Rattle.smc_core.specs.Add.{add_offer, next_slot, next_entry, slot_seen, entry_seen, store_field, add_change, takes}
+use Rattle.smc_core.specs.Add.{add_offer, next_slot, next_entry, slot_seen, entry_seen, store_field, add_change}
 use Rattle.smc_core.specs.Remove.{mark_seen, remove_change}
-use Rattle.smc_core.specs.Scan.{scan_offer, owner_seen, scan_change, next_change, is_over, is_scanned}
+use Rattle.smc_core.specs.Scan.{owner_seen, scan_change, next_change, is_over, is_scanned}
 use Rattle.smc_core.specs.Words.{is_gone}
 use Rattle.smc_automaton.proofs.LookLaws.{passes-fits}
 

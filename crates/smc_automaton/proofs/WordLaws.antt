@@ -1,7 +1,7 @@
 -- What an offered step stores, puts or expects fits its place.
-use Rattle.std.proofs.Common.{◌≡◌, ◌<◌, ◌≤◌, ◌+◌, ◌==◌, ◌&&◌, ℕ, Bool, true, false, not, nat_lt, Option, Some, None, List, length, refl, subst, arith}
+use Rattle.std.proofs.Common.{◌≡◌, ◌<◌, ◌≤◌, ℕ, Bool, true, false, nat_lt, Option, Some, None, List, length, refl, subst, arith}
 use Rattle.std.proofs.lemmas.Bool.{ltb-true, cond_both}
-use Rattle.smc_words.specs.declared.layout.TheConstants.{COLLECTIONS, ENTRIES, EPOCHS, INCARNATIONS, PASSES}
+use Rattle.smc_words.specs.declared.layout.TheConstants.{ENTRIES}
 use Rattle.smc_words.specs.declared.number.Number.{Number}
 use Rattle.smc_shape.specs.Layout.{Layout, IsShape}
 use Rattle.smc_shape.specs.declared.place.Place.TheVariants as place
@@ -40,15 +40,15 @@ use Rattle.smc_core.specs.Add.{takes, add_offer}
 use Rattle.smc_core.specs.Begin.{round_offer, begin_offer}
 use Rattle.smc_core.specs.Cancel.{cancel_offer}
 use Rattle.smc_core.specs.Count.{count_offer}
-use Rattle.smc_core.specs.Finish.{finish_offer, finish_start, is_early, first_target}
+use Rattle.smc_core.specs.Finish.{finish_offer, finish_start, is_early}
 use Rattle.smc_core.specs.Look.{copy_offer, look_offer}
 use Rattle.smc_core.specs.Offer.{offer, go_offer, start_offer, when_idle, when_outside, when_inside, when_held, when_begun, when_owned, held_slot, look_start}
 use Rattle.smc_core.specs.Remove.{remove_offer}
 use Rattle.smc_core.specs.Row.{has_place}
 use Rattle.smc_core.specs.Scan.{scan_offer, scan_of, next_offer, is_over}
 use Rattle.smc_core.specs.Section.{epoch_of, entering_offer}
-use Rattle.smc_core.specs.Step.{step, when}
-use Rattle.smc_automaton.specs.Fits.{FitsSection, FitsOwned, FitsStand}
+use Rattle.smc_core.specs.Step.{when}
+use Rattle.smc_automaton.specs.Fits.{FitsSection, FitsStand}
 use Rattle.smc_automaton.specs.FitsPhase.{HasIncarnation, FitsCopy, FitsLook, FitsAdd, FitsRemove, FitsBegin, FitsFinish, FitsCancel, FitsPhase}
 use Rattle.smc_automaton.specs.FitsWord.{FitsOp}
 

@@ -3,7 +3,6 @@ use Rattle.std.specs.Prelude.{◌≤◌}
 use Rattle.smc_words.specs.declared.layout.TheConstants.{ENTRIES}
 use Rattle.smc_core.specs.declared.phase.moves.Counting.{Counting}
 use Rattle.smc_core.specs.declared.phase.moves.Counting.TheVariants.{Walks, Counted}
-use Rattle.smc_automaton.specs.FitsPhase.{FitsCount}
 
 -- no more objects are counted than a collection can have slots
 abbrev pub FewCounted : Counting → Type 0
