@@ -1,7 +1,6 @@
 -- Each step of each kind pays what it owes to the round word.
 use Rattle.std.proofs.Common.{◌≡◌, ℕ, ◌+◌, ◌<◌, ◌==◌, ◌&&◌, Bool, true, false, not, Option, Some, None, List, length, refl, sym, ap, ◌∙◌, subst, arith}
 use Rattle.std.specs.Prelude.{IfSome, IsTrue, IsSome, is_some, nat_lt, if◌then◌else◌}
-use Rattle.smc_words.specs.declared.layout.TheConstants.{BLANK}
 use Rattle.smc_words.specs.declared.number.Number.{Number}
 use Rattle.smc_words.specs.declared.round.RoundWord.{RoundWord}
 use Rattle.smc_shape.specs.Layout.{Layout, IsShape, width_of}
@@ -34,7 +33,7 @@ use Rattle.smc_core.specs.declared.section.Section.{Section}
 use Rattle.smc_core.specs.declared.section.Section.TheVariants.{Outside, Loaded, Announced, Again, Lasting, Inside}
 use Rattle.smc_core.specs.declared.word.Word.{Word}
 use Rattle.smc_core.specs.declared.word.Word.TheVariants as word
-use Rattle.smc_core.specs.Add.{add_offer, takes}
+use Rattle.smc_core.specs.Add.{add_offer, is_value, takes}
 use Rattle.smc_core.specs.Begin.{begin_offer, round_offer, round_seen}
 use Rattle.smc_core.specs.Cancel.{cancel_offer}
 use Rattle.smc_core.specs.Change.{change}
@@ -54,14 +53,9 @@ use Rattle.smc_rules.specs.RoundAgreement.{is_owners}
 use Rattle.smc_rules.specs.State.{State}
 use Rattle.smc_inv_epoch.specs.Epochs.{is_first}
 use Rattle.smc_inv_epoch.specs.Rounds.{Rounds}
-use Rattle.smc_inv_epoch.proofs.Offers.{if_idle, if_outside, if_inside, if_test, if_held, if_begun}
+use Rattle.smc_rules.proofs.OfferLaws.{if_idle, if_outside, if_inside, if_test, if_held, if_begun, if_owned}
 use Rattle.smc_inv_epoch.proofs.RoundMoves.{RoundMoves, still_moves, dropped_moves, begun_moves, leaves_round, leaves_round-same}
 use Rattle.smc_inv_epoch.proofs.Strangers as S
-
--- where an offer stands behind a round of the own, what is to be known of it is to be known with that round
-if_owned : (P : Offer → Type 0) (owned : Option Owned) (o : Owned → Offer) → ((one : Owned) → owned ≡ Some one → P (o one)) → IfSome (when_owned owned o) P
-if_owned P None o k = tt
-if_owned P (Some one) o k = k one refl
 
 -- steps that leave the round word
 look-leaves : (next : LookPhase) → IsTrue (leaves_round (look_offer next).op)
@@ -221,21 +215,21 @@ module _ (shape : Layout) (state : State) (pass : ℕ) (h : Rounds shape state) 
       strange_start section (call.Look number) (look_start shape pass number) at (either_leaves (has_place shape (place.Entry number.coll number.entry)) _ _ refl refl) (λ w. refl) (λ w. refl)
       (λ told w. S.look_started-strange shape (is_calm section) number w))
   starting section at (call.Read number field) = if_inside (Starts section (call.Read number field)) section _ (λ own calm is.
-      if_held (Starts section (call.Read number field)) (held_slot stand.held number) _ (λ slot.
+      if_held (Starts section (call.Read number field)) (held_slot stand.held number) _ (λ slot _.
       if_test (Starts section (call.Read number field)) (nat_lt field (width_of shape number.coll)) _ (λ t.
       strange_start section (call.Read number field) _ at refl (λ w. refl) (λ w. refl) (λ told w. refl))))
   starting section at (call.Write number field value) = if_inside (Starts section (call.Write number field value)) section _ (λ own calm is.
-      if_held (Starts section (call.Write number field value)) (held_slot stand.held number) _ (λ slot.
-      if_test (Starts section (call.Write number field value)) (nat_lt field (width_of shape number.coll) && not (value == BLANK)) _ (λ t.
+      if_held (Starts section (call.Write number field value)) (held_slot stand.held number) _ (λ slot _.
+      if_test (Starts section (call.Write number field value)) (nat_lt field (width_of shape number.coll) && is_value value) _ (λ t.
       strange_start section (call.Write number field value) _ at refl (λ w. refl) (λ w. refl) (λ told w. refl))))
   starting section at (call.Remove number) = if_inside (Starts section (call.Remove number)) section _ (λ own calm is.
-      if_held (Starts section (call.Remove number)) (held_slot stand.held number) _ (λ slot.
+      if_held (Starts section (call.Remove number)) (held_slot stand.held number) _ (λ slot _.
       strange_start section (call.Remove number) _ at refl (λ w. refl) (λ w. refl) (λ told w. S.remove_started-strange number (held_slot stand.held number) (state_of w))))
   starting section at (call.Scan coll) = if_inside (Starts section (call.Scan coll)) section _ (λ own calm is.
       if_test (Starts section (call.Scan coll)) (nat_lt coll (length shape.colls)) _ (λ t.
       strange_start section (call.Scan coll) _ at refl (λ w. refl) (λ w. refl) (λ told w. refl)))
   starting section at (call.Next scan) = if_inside (Starts section (call.Next scan)) section _ (λ own calm is.
-      if_begun (Starts section (call.Next scan)) (scan_of stand.scans scan) _ (λ one.
+      if_begun (Starts section (call.Next scan)) (scan_of stand.scans scan) _ (λ one _.
       strange_start section (call.Next scan) (next_offer shape pass one) at (either_leaves (is_over shape one) _ _ refl refl) (λ w. refl) (λ w. refl)
       (λ told w. S.next_started-strange shape (scan_of stand.scans scan) w)))
   starting section at (call.Begin coll) = if_inside (Starts section (call.Begin coll)) section _ (λ own calm is.
