@@ -1,13 +1,9 @@
 -- What is offered: where an offer stands behind a test, and which words the steps of a call are on.
-use Rattle.std.proofs.Common.{◌≡◌, ℕ, ◌<◌, Bool, true, false, Option, Some, None, List, refl, arith}
-use Rattle.std.specs.Prelude.{IsTrue, IfSome}
+use Rattle.std.proofs.Common.{◌≡◌, ℕ, ◌<◌, false, List, arith}
+use Rattle.std.specs.Prelude.{IsTrue}
 use Rattle.smc_shape.specs.Layout.{Layout}
-use Rattle.smc_core.specs.declared.local.Owned.{Owned}
-use Rattle.smc_core.specs.declared.local.Scan.{Scan}
 use Rattle.smc_core.specs.declared.op.Offer.{Offer}
 use Rattle.smc_core.specs.declared.op.Op.{Op}
-use Rattle.smc_core.specs.declared.phase.Phase.{Phase}
-use Rattle.smc_core.specs.declared.phase.Phase.TheVariants as phase
 use Rattle.smc_core.specs.declared.phase.moves.BeginPhase.{BeginPhase}
 use Rattle.smc_core.specs.declared.phase.moves.BeginPhase.TheVariants as begin
 use Rattle.smc_core.specs.declared.phase.moves.CancelPhase.{CancelPhase}
@@ -20,19 +16,15 @@ use Rattle.smc_core.specs.declared.phase.objects.LookPhase.{LookPhase}
 use Rattle.smc_core.specs.declared.phase.objects.RemovePhase.{RemovePhase}
 use Rattle.smc_core.specs.declared.phase.objects.ScanPhase.{ScanPhase}
 use Rattle.smc_core.specs.declared.phase.objects.ScanPhase.TheVariants as scan
-use Rattle.smc_core.specs.declared.section.Section.{Section}
-use Rattle.smc_core.specs.declared.section.Section.TheVariants.{Outside, Inside}
 use Rattle.smc_core.specs.Add.{add_offer}
 use Rattle.smc_core.specs.Begin.{begin_offer}
 use Rattle.smc_core.specs.Cancel.{cancel_offer}
 use Rattle.smc_core.specs.Count.{count_offer}
 use Rattle.smc_core.specs.Finish.{finish_offer}
 use Rattle.smc_core.specs.Look.{look_offer}
-use Rattle.smc_core.specs.Offer.{when_idle, when_inside, when_outside, when_held, when_begun, when_owned}
 use Rattle.smc_core.specs.Remove.{remove_offer}
 use Rattle.smc_core.specs.Row.{OpFits, place_of}
 use Rattle.smc_core.specs.Scan.{scan_offer}
-use Rattle.smc_core.specs.Step.{when}
 use Rattle.smc_inv_epoch.specs.Epochs.{is_first}
 use Rattle.smc_inv_epoch.proofs.Quiet as Q
 

@@ -1,19 +1,17 @@
 -- Each step of each kind pays what it owes to the round word.
-use Rattle.std.proofs.Common.{◌≡◌, ℕ, ◌+◌, ◌<◌, ◌==◌, ◌&&◌, Bool, true, false, not, Option, Some, None, List, length, refl, sym, ap, ◌∙◌, subst, arith}
+use Rattle.std.proofs.Common.{◌≡◌, ℕ, ◌+◌, ◌<◌, ◌&&◌, Bool, true, false, Option, Some, None, List, length, refl, sym, ap, ◌∙◌, subst, arith}
 use Rattle.std.specs.Prelude.{IfSome, IsTrue, IsSome, is_some, nat_lt, if◌then◌else◌}
 use Rattle.smc_words.specs.declared.number.Number.{Number}
 use Rattle.smc_words.specs.declared.round.RoundWord.{RoundWord}
-use Rattle.smc_shape.specs.Layout.{Layout, IsShape, width_of}
+use Rattle.smc_shape.specs.Layout.{Layout, width_of}
 use Rattle.smc_shape.specs.declared.place.Place.TheVariants as place
 use Rattle.smc_core.specs.declared.call.Call.{Call}
 use Rattle.smc_core.specs.declared.call.Call.TheVariants as call
 use Rattle.smc_core.specs.declared.call.Choice.{Choice}
 use Rattle.smc_core.specs.declared.call.Choice.TheVariants.{Start, Go}
-use Rattle.smc_core.specs.declared.local.Owned.{Owned}
-use Rattle.smc_core.specs.declared.local.Scan.{Scan}
 use Rattle.smc_core.specs.declared.local.Stand.{Stand}
 use Rattle.smc_core.specs.declared.op.Offer.{Offer}
-use Rattle.smc_core.specs.declared.op.Op.TheVariants.{Load, Store, Exchange}
+use Rattle.smc_core.specs.declared.op.Op.TheVariants.{Exchange}
 use Rattle.smc_core.specs.declared.phase.Phase.{Phase}
 use Rattle.smc_core.specs.declared.phase.Phase.TheVariants as phase
 use Rattle.smc_core.specs.declared.phase.moves.BeginPhase.{BeginPhase}
@@ -41,7 +39,7 @@ use Rattle.smc_core.specs.Count.{count_offer, counting, no_count}
 use Rattle.smc_core.specs.Finish.{finish_offer, finish_start, is_early}
 use Rattle.smc_core.specs.Local.{section_after, round_after, round_begun}
 use Rattle.smc_core.specs.Look.{look_offer, copy_offer}
-use Rattle.smc_core.specs.Offer.{offer, go_offer, start_offer, when_owned, look_start, held_slot}
+use Rattle.smc_core.specs.Offer.{offer, go_offer, start_offer, look_start, held_slot}
 use Rattle.smc_core.specs.Remove.{remove_offer}
 use Rattle.smc_core.specs.Row.{place_of, has_place}
 use Rattle.smc_core.specs.Scan.{scan_offer, scan_of, next_offer, is_over}

@@ -1,19 +1,17 @@
 -- The round word tells the truth after every list of steps.
-use Rattle.std.proofs.Common.{◌≡◌, ℕ, ◌<◌, Some, List, refl, subst, arith}
-use Rattle.std.specs.Prelude.{IsTrue, IfSome}
+use Rattle.std.proofs.Common.{◌≡◌, ℕ, ◌<◌, Some, List, refl, subst}
+use Rattle.std.specs.Prelude.{IfSome}
 use Rattle.smc_shape.specs.Layout.{Layout, IsShape}
 use Rattle.smc_core.specs.declared.call.Choice.{Choice}
 use Rattle.smc_core.specs.declared.local.Local.{Local}
 use Rattle.smc_core.specs.declared.local.Opening.{Opening}
 use Rattle.smc_core.specs.declared.op.Offer.{Offer}
-use Rattle.smc_core.specs.declared.word.Word.{Word}
 use Rattle.smc_core.specs.Machine.{IsOpening, IsOpened, Reach}
-use Rattle.smc_core.specs.Row.{place_of}
-use Rattle.smc_rules.specs.Memory.{apply, seen}
+use Rattle.smc_rules.specs.Memory.{apply}
 use Rattle.smc_rules.specs.State.{State, IsKept, Backed, stand_offer, stand_then, state_after, first_state}
 use Rattle.smc_rules.proofs.CarryLaws.{carried}
 use Rattle.smc_rules.proofs.FirstState.{relocation-first}
-use Rattle.smc_inv_epoch.specs.Epochs.{Epochs, is_first}
+use Rattle.smc_inv_epoch.specs.Epochs.{is_first}
 use Rattle.smc_inv_epoch.specs.Rounds.{Rounds, RoundWordRule}
 use Rattle.smc_inv_epoch.proofs.EveryList.{epochs-kept, epochs-first, first-suits}
 use Rattle.smc_inv_epoch.proofs.RoundKinds.{Tells, tells}

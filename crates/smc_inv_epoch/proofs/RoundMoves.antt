@@ -14,14 +14,13 @@ use Rattle.smc_core.specs.declared.op.Op.TheVariants.{Load, Store, Exchange, Mar
 use Rattle.smc_core.specs.declared.phase.Phase.{Phase}
 use Rattle.smc_core.specs.declared.section.Section.{Section}
 use Rattle.smc_core.specs.declared.section.Section.TheVariants.{Inside}
-use Rattle.smc_core.specs.declared.word.Word.{Word}
 use Rattle.smc_core.specs.declared.word.Word.TheVariants as word
 use Rattle.smc_core.specs.Words.{round_of}
 use Rattle.smc_rules.specs.EpochRule.{own_epoch}
 use Rattle.smc_rules.specs.Memory.{Memory, apply, same_place}
 use Rattle.smc_rules.specs.Reads.{round_in}
 use Rattle.smc_rules.specs.RelocationRule.{NamesOwner, CalmBound}
-use Rattle.smc_rules.specs.RoundAgreement.{RoundAgreement, is_owners}
+use Rattle.smc_rules.specs.RoundAgreement.{is_owners}
 use Rattle.smc_rules.specs.State.{State, put_stand}
 use Rattle.smc_rules.proofs.CarryLaws.{by_pass, put_stand-same, put_stand-other}
 use Rattle.smc_rules.proofs.MirrorLaws.{apply-other}

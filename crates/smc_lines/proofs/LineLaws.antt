@@ -1,17 +1,17 @@
 -- The lines of a text, from what was found in its front.
-use Rattle.std.proofs.Common.{◌≡◌, ◌≢◌, ℕ, ◌+◌, ◌*◌, ◌<◌, ◌≤◌, List, [], ◌∷◌, ◌++◌, All, take, drop, suc, add-one, length, map, slice_index, refl, sym, ap, ◌∙◌, arith, true, false, Bool, ◌-◌, ◌==◌, if◌then◌else◌, subst, length-append, length-take, length-drop, append-nil, append_assoc, drop_of_length-le, IfSome}
-use Rattle.std.proofs.Math.Seq.{split_at, take-length}
+use Rattle.std.proofs.Common.{◌≡◌, ◌≢◌, ℕ, ◌+◌, ◌<◌, ◌≤◌, List, [], ◌∷◌, ◌++◌, All, take, drop, suc, add-one, length, map, slice_index, refl, ap, ◌∙◌, arith, true, false, Bool, ◌-◌, ◌==◌, if◌then◌else◌, subst, length-append, length-take, length-drop, append-nil, append_assoc}
+use Rattle.std.proofs.Math.Seq.{split_at}
 use Rattle.std.proofs.lemmas.Bool.{ne_eqb}
 use Rattle.std.proofs.lemmas.List.{map-append, length-map, drop-drop, take-append-le, drop-append-le, get_or_append_left}
-use Rattle.std.proofs.lemmas.List.Elements.{All-head, All-tail, All-nil, All-push, All-append}
+use Rattle.std.proofs.lemmas.List.Elements.{All-head, All-tail, All-nil, All-push}
 use Rattle.std.specs.Prelude.{⊤}
 use Rattle.std.specs.List.{onto_first}
 use Rattle.std.specs.Str.Lines.{strip_carriage_return}
-use Rattle.smc_lines.specs.Lines.{ended_lines, lines, IsShort, IsWithin}
+use Rattle.smc_lines.specs.Lines.{ended_lines, IsShort, IsWithin}
 use Rattle.smc_lines.specs.Reading.{HasEnded, HasLineAt, IsRefused, PassesLimit}
 use Rattle.smc_lines.specs.declared.fault.LinesFault.{LinesFault}
 use Rattle.smc_lines.specs.declared.fault.LinesFault.TheVariants.{ReadFault, TooLong, TooMany, NoMemory}
-use Rattle.smc_lines.specs.declared.limits.TheConstants.{NEWLINE, MAX_LINE, MAX_LINES}
+use Rattle.smc_lines.specs.declared.limits.TheConstants.{NEWLINE, MAX_LINES}
 
 abbrev pub HasNoEnd : List ℕ → Type 0
 HasNoEnd bytes = All (λ x. x ≢ NEWLINE) bytes

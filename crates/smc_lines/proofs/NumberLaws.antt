@@ -1,9 +1,9 @@
 -- The numbers that digits spell.
-use Rattle.std.proofs.Common.{◌≡◌, ℕ, ◌+◌, ◌-◌, ◌*◌, ◌^◌, ◌<◌, ◌≤◌, List, [], ◌∷◌, ◌++◌, Bool, true, false, take, drop, length, get_or, arith, refl, sym, ap, ◌∙◌}
+use Rattle.std.proofs.Common.{◌≡◌, ℕ, ◌+◌, ◌-◌, ◌*◌, ◌^◌, ◌<◌, ◌≤◌, List, [], ◌∷◌, Bool, true, false, take, drop, length, get_or, arith, refl, sym, ap, ◌∙◌}
 use Rattle.std.proofs.lemmas.Bool.Decides.{nat_tests}
 use Rattle.std.proofs.lemmas.List.{take-append-drop}
 use Rattle.std.proofs.lemmas.List.Sums.{fold-append, fold_more}
-use Rattle.std.specs.Prelude.{Option, Some, None, fold, ◌&&◌, nat_le, if◌then◌else◌}
+use Rattle.std.specs.Prelude.{Some, None, fold, ◌&&◌, nat_le, if◌then◌else◌}
 use Rattle.smc_lines.specs.Numbers.{is_number, then_digit, decimal_value, number_of}
 
 -- more digits make no smaller number

@@ -1,12 +1,11 @@
 -- Texts that end in a mark, as texts and as words.
-use Rattle.std.proofs.Common.{◌≡◌, ◌≢◌, ℕ, ◌+◌, ◌-◌, ◌<◌, List, [], ◌∷◌, ◌++◌, Bool, true, false, cond, codes, length, take, drop, nat_eq, refl, sym, ap, ◌∙◌, arith, append_assoc, length-append}
+use Rattle.std.proofs.Common.{◌≡◌, ℕ, ◌-◌, ◌<◌, List, [], ◌∷◌, ◌++◌, Bool, true, false, cond, codes, length, take, drop, nat_eq, refl, sym, ap, ◌∙◌, arith, append_assoc, length-append}
 use Rattle.std.proofs.Math.Seq.{drop-append_seam}
 use Rattle.std.proofs.lemmas.List.{take-append-drop}
 use Rattle.std.proofs.lemmas.List.Splits.{length-slice_split, join_with_byte-slice_split}
 use Rattle.std.proofs.lemmas.Slice.Eq.{bytes_eq-Decides}
-use Rattle.std.specs.Prelude.{◌==◌, count_by}
+use Rattle.std.specs.Prelude.{◌==◌}
 use Rattle.std.specs.List.{onto_first, ends_with, join_with_byte}
-use Rattle.std.specs.Str.{bytes_eq}
 use Rattle.smc_lines.specs.Words.{words}
 use Rattle.smc_lines.specs.declared.limits.TheConstants.{SPACE}
 use Rattle.smc_schedule.proofs.CallLaws.{last_word}

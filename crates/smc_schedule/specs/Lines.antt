@@ -1,5 +1,5 @@
 -- What a line of a schedule says, as a function of its text; `Grammar.antt` has the same in the words of the format.
-use Rattle.std.specs.Prelude.{ℕ, ◌-◌, Bool, if◌then◌else◌, nat_eq, List, [], ◌∷◌, length, take, codes, None, Some, option_and_then}
+use Rattle.std.specs.Prelude.{ℕ, ◌-◌, if◌then◌else◌, nat_eq, List, [], ◌∷◌, length, take, codes, None, Some, option_and_then}
 use Rattle.std.specs.declared.option.Option.{Option}
 use Rattle.std.specs.List.{ends_with}
 use Rattle.std.specs.Option.{option_map}

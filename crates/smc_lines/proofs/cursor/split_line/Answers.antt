@@ -1,4 +1,4 @@
-use Rattle.std.proofs.Common.{length, ap, ◌∙◌, drop_of_length-le, arith}
+use Rattle.std.proofs.Common.{length, drop_of_length-le, arith}
 use Rattle.std.proofs.Math.Seq.{take-length}
 use Rattle.smc_lines.proofs.LineLaws.{first_line-at, lines-last}
 use Rattle.smc_lines.proofs.cursor.split_line.Goals as goal

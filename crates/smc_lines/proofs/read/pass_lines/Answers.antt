@@ -1,4 +1,4 @@
-use Rattle.std.proofs.Common.{◌<◌, ◌≢◌, length, drop, sym, arith}
+use Rattle.std.proofs.Common.{length, drop, sym, arith}
 use Rattle.std.proofs.lemmas.Bool.{eqb-false}
 use Rattle.smc_lines.proofs.LineLaws.{IsWithin-open, lines-begun, long-begun, refused}
 use Rattle.smc_lines.proofs.read.pass_lines.Goals as goal
