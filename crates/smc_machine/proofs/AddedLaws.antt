@@ -1,5 +1,5 @@
 -- What a step adds to a pass, by what it does to its lists.
-use Rattle.std.proofs.Common.{◌≡◌, ℕ, Bool, true, false, Option, Some, None, List, [], ◌∷◌, ◌++◌, ◌+◌, ◌<◌, ◌^◌, length, if◌then◌else◌, refl, sym, ap, ◌∙◌, unwrap_or, arith}
+use Rattle.std.proofs.Common.{◌≡◌, ℕ, false, Option, Some, None, List, [], ◌++◌, ◌+◌, ◌<◌, ◌^◌, length, if◌then◌else◌, refl, ap, ◌∙◌, unwrap_or, arith}
 use Rattle.std.proofs.lemmas.Bool.Decides.{nat_tests}
 use Rattle.std.specs.Option.{option_to_list}
 use Rattle.std.proofs.lemmas.List.{append-nil}

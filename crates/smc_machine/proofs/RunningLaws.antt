@@ -1,24 +1,18 @@
 -- What a machine that runs keeps at a step.
-use Rattle.std.proofs.Common.{◌≡◌, ℕ, ◌<◌, ◌≤◌, ◌^◌, zero, suc, Bool, true, false, Option, Some, None, List, [], ◌∷◌, length, replicate, set, get_or, IsSome, refl, sym, ap, ◌∙◌, subst, inl, inr, arith}
+use Rattle.std.proofs.Common.{◌≡◌, ℕ, ◌<◌, zero, suc, false, Option, Some, List, [], ◌∷◌, length, replicate, set, get_or, IsSome, refl, sym, ap, ◌∙◌, subst, inl, inr}
 use Rattle.std.specs.List.{slice_get}
 use Rattle.std.proofs.lemmas.Bool.{cases_eq}
 use Rattle.std.proofs.lemmas.List.{length-replicate, length-set}
 use Rattle.std.proofs.lemmas.Option.{none-some, same_Some, slice_get_read}
-use Rattle.smc_shape.specs.Layout.{Layout, IsShape}
+use Rattle.smc_shape.specs.Layout.{Layout}
 use Rattle.smc_core.specs.declared.call.Choice.{Choice}
 use Rattle.smc_core.specs.declared.local.Local.{Local}
-use Rattle.smc_core.specs.declared.local.Stand.{Stand}
 use Rattle.smc_core.specs.declared.op.Offer.{Offer}
-use Rattle.smc_core.specs.declared.op.Op.{Op}
-use Rattle.smc_core.specs.declared.op.Op.TheVariants.{Load, Store, Exchange, MarkGone}
-use Rattle.smc_core.specs.declared.word.Word.{Word}
 use Rattle.smc_core.specs.Local.{fresh, after}
 use Rattle.smc_core.specs.Machine.{Machine, Steps, local_offer, told_by}
-use Rattle.smc_core.specs.Offer.{offer}
 use Rattle.smc_core.specs.Played.{step_local, step_offered, step_told, step_of}
 use Rattle.smc_core.specs.Row.{row_after, row_shows}
 use Rattle.smc_automaton.specs.Fits.{FitsStand}
-use Rattle.smc_automaton.specs.FitsWord.{FitsOp, FitsSeen}
 use Rattle.smc_machine.specs.Chosen.{IsChosen}
 use Rattle.smc_machine.specs.declared.machine.Chosen.{Chosen}
 use Rattle.smc_machine.specs.declared.step.Step.{Step}

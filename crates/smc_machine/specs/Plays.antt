@@ -9,7 +9,7 @@ use Rattle.smc_core.specs.Machine.{Machine, Steps, Leads}
 use Rattle.smc_machine.specs.declared.step.PlayFault.{PlayFault}
 use Rattle.smc_machine.specs.declared.step.Step.{Step}
 use Rattle.smc_machine.specs.declared.step.StepFault.{StepFault}
-use Rattle.smc_machine.specs.declared.step.StepFault.TheVariants.{NoPass, NotOffered, CountSpent, NoMemory}
+use Rattle.smc_machine.specs.declared.step.StepFault.TheVariants.{NoMemory}
 use Rattle.smc_machine.specs.Faults.{IsRefused}
 use Rattle.smc_machine.specs.Running.{Running, Tells}
 

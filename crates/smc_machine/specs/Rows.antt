@@ -1,5 +1,5 @@
 -- The row of a region that runs.
-use Rattle.std.specs.Prelude.{◌≡◌, ℕ, ◌+◌, ◌*◌, Option, Some, None, List, [], ◌∷◌, ◌++◌, length, replicate, slice_index, if◌then◌else◌}
+use Rattle.std.specs.Prelude.{◌≡◌, ℕ, ◌+◌, ◌*◌, Option, Some, None, List, ◌∷◌, ◌++◌, length, replicate, slice_index, if◌then◌else◌}
 use Rattle.std.specs.List.{flat_map}
 use Rattle.smc_words.specs.declared.layout.TheConstants.{BLANK}
 use Rattle.smc_shape.specs.Layout.{Collection, Layout, IsShape, words_of}

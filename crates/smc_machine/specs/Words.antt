@@ -1,5 +1,5 @@
 -- Which words have a number.
-use Rattle.std.specs.Prelude.{Option, Some, None}
+use Rattle.std.specs.Prelude.{Some}
 use Rattle.smc_words.specs.Dir.{FitsDir}
 use Rattle.smc_words.specs.Number.{FitsNumber}
 use Rattle.smc_words.specs.RoundWord.{FitsRound}

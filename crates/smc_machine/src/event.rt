@@ -1,3 +1,4 @@
+//! Copies of what a step tells and of what an add is to write, whose memory is taken before the step changes anything.
 ghost use Rattle.std.specs.Prelude.{◌≡◌, IfOk};
 ghost use Rattle.smc_machine.specs.Added.{words_added};
 

@@ -1,3 +1,4 @@
+//! What a pass keeps beside where it stands: its log, its answers, its notes and what it has learnt.
 ghost use Rattle.std.specs.Prelude.{◌≡◌, ◌∷◌, ◌++◌, [], IfOk, OnOk, OnErr, replicate};
 ghost use Rattle.smc_automaton.specs.Effects.{cursors_by};
 ghost use Rattle.smc_machine.specs.Added.{note_made, note_learnt, answer_at};

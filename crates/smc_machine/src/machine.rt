@@ -1,3 +1,4 @@
+//! A region and its passes: how they are opened, and how one pass takes one step.
 ghost use Rattle.std.specs.Prelude.{◌≡◌, ◌<◌, ℕ, List, false, Some, IfOk, IfErr, OnOk, OnErr, slice_get, replicate};
 ghost use Rattle.smc_core.specs.declared.local.Local.{Local};
 ghost use Rattle.smc_core.specs.Local.{fresh, after};
@@ -34,7 +35,10 @@ impl Model for Machine {
 
     ghost Value = { Running };
 
-    ghost view = { λ m. record { shape = m.row.shape; machine = record { row = m.row.row; locals = m.passes.items } } };
+    ghost view = { λ m. record {
+      shape = m.row.shape;
+      machine = record { row = m.row.row; locals = m.passes.items };
+    } };
 
     ghost invariant = { λ m. IsRunning m.row.shape m.passes.items };
 }

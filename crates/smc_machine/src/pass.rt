@@ -1,3 +1,4 @@
+//! What one pass knows, and what a step makes of it.
 ghost use Rattle.std.specs.Prelude.{◌≡◌, false, IfOk, OnOk, OnErr};
 ghost use Rattle.smc_core.specs.Local.{fresh, after};
 ghost use Rattle.smc_automaton.specs.Fits.{FitsStand};

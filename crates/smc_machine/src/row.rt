@@ -1,3 +1,4 @@
+//! The numbers of a region's words in one row: how they are opened, read, and changed by an operation.
 ghost use Rattle.std.specs.Prelude.{◌≡◌, ◌<◌, ◌++◌, IfSome, IfOk, OnOk, length};
 ghost use Rattle.smc_shape.specs.Layout.{IsShape, coll_of};
 ghost use Rattle.smc_core.specs.Machine.{IsOpening, IsOpened};

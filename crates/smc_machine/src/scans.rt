@@ -1,3 +1,4 @@
+//! What a step makes of the scans of a section.
 ghost use Rattle.std.specs.Prelude.{◌≡◌, ◌==◌, ◌+◌, ◌<◌, ◌++◌, ◌^◌, length, position, take, drop};
 ghost use Rattle.std.specs.Option.{option_to_list};
 ghost use Rattle.smc_core.specs.Scan.{passed, ended};

@@ -1,3 +1,4 @@
+//! A schedule is played step by step, up to the first step that is refused.
 ghost use Rattle.std.specs.Prelude.{◌≡◌, IfOk, IfErr, OnOk, OnErr};
 ghost use Rattle.smc_machine.specs.Plays.{Plays, PlaysOne, StopsAt, IsStopped};
 

@@ -1,3 +1,4 @@
+//! What a step makes of where its pass stands.
 ghost use Rattle.std.specs.Prelude.{◌≡◌, ◌+◌, ◌<◌, ◌^◌, false, OnOk, OnErr, length};
 ghost use Rattle.std.specs.Option.{option_to_list};
 ghost use Rattle.smc_core.specs.Local.{held_after, words_after, stand_after};

@@ -1,3 +1,4 @@
+//! What a step tells, and why it may be refused.
 use smc_core::Done;
 use smc_model::Event;
 

@@ -1,3 +1,4 @@
+//! What the other passes allow a pass: to learn a note that one of them has made, and only once.
 ghost use Rattle.std.specs.Prelude.{◌≡◌};
 ghost use Rattle.smc_core.specs.Machine.{has_learnt, is_learnt, noted_length, told_by};
 

@@ -1,3 +1,4 @@
+//! The words of a region as numbers: how they are packed and read.
 ghost use Rattle.std.specs.Prelude.{◌≡◌};
 ghost use Rattle.smc_core.specs.Row.{packed, entry_of, state_in, unpacked, unpacked_dir, unpacked_entry, unpacked_number, unpacked_round, FitsState};
 ghost use Rattle.smc_machine.specs.Words.{PartsFit};
@@ -45,7 +46,14 @@ fn entry_with(
     gone: bool,
     free: bool,
 ) -> Entry
-    ensures { result ≡ record { incarnation = incarnation; payload = payload; frozen = frozen; locked = locked; gone = gone; free = free } }
+    ensures { result ≡ record {
+      incarnation = incarnation;
+      payload = payload;
+      frozen = frozen;
+      locked = locked;
+      gone = gone;
+      free = free;
+    } }
 {
     Entry {
         incarnation,

@@ -1,4 +1,3 @@
-use Rattle.smc_core.specs.Offer.{offer}
 use Rattle.smc_machine.proofs.machine.take_part.Goals as goal
 
 pub returns-clause-words : goal.returns-clause-words

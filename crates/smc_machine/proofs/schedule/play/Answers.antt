@@ -1,6 +1,6 @@
-use Rattle.std.proofs.Common.{◌≡◌, sym, ap, ◌∙◌, subst}
+use Rattle.std.proofs.Common.{◌∙◌, subst}
 use Rattle.smc_shape.specs.Layout.{Layout}
-use Rattle.smc_machine.specs.Plays.{Plays, PlaysOne}
+use Rattle.smc_machine.specs.Plays.{PlaysOne}
 use Rattle.smc_machine.proofs.PlayLaws.{Plays-next, StopsAt-next}
 use Rattle.smc_machine.proofs.schedule.play.Goals as goal
 

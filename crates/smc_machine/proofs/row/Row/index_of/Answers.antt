@@ -1,4 +1,4 @@
-use Rattle.std.proofs.Common.{◌≡◌, true, sym, ap, ◌∙◌, arith}
+use Rattle.std.proofs.Common.{◌≡◌, true, sym, ap, ◌∙◌}
 use Rattle.smc_core.specs.Row.{has_place}
 use Rattle.smc_machine.specs.Rows.{Numbers}
 use Rattle.smc_machine.proofs.RowLaws.{at-within}

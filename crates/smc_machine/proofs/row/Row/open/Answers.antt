@@ -1,4 +1,3 @@
-use Rattle.std.proofs.Common.{rules, sym, subst}
 use Rattle.smc_machine.proofs.OpenLaws.{opened_row-opens, IsRow-opened}
 use Rattle.smc_machine.proofs.row.Row.open.Goals as goal
 
