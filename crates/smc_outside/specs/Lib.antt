@@ -2,3 +2,4 @@ pub mod Causes
 pub mod Told
 pub mod Pieces
 pub mod InMemory
+pub mod Shelves

@@ -1,10 +1,11 @@
-ghost use Rattle.std.specs.Prelude.{◌≡◌, ◌<◌, ◌++◌, length, take, drop, min, is_err, IfOk, Some};
+ghost use Rattle.std.specs.Prelude.{◌≡◌, ◌<◌, length, min, is_err, IfOk, Some};
 ghost use Rattle.std.specs.Io.{ReadsAtMost};
 ghost use Rattle.std.specs.Io.KnownBytes.{ReadConsumes};
 ghost use Rattle.smc_outside.specs.Causes.{HasCause};
 ghost use Rattle.smc_outside.specs.InMemory.{is_listed, after_read};
 
 use crate::calls::Calls;
+use crate::copy::copy_front;
 use crate::failed::Faults;
 use crate::{Failed, Source};
 use std::marker::Model;
@@ -85,17 +86,6 @@ impl Source for MemSource {
         self.at += count;
         Ok(count)
     }
-}
-
-// Copies the front of `from` to the front of `to`, at most `most` bytes, and answers how many.
-fn copy_front(from: &[u8], most: usize, to: &mut [u8]) -> usize
-    ensures count { result ≡ min most (min (length from.now) (length to.old)) }
-    ensures copied { to.new ≡ take result from.now ++ drop result to.old }
-{
-    let count = most.min(from.len().min(to.len()));
-    let (front, _) = from.split_at(count);
-    to[..count].copy_from_slice(front);
-    count
 }
 
 #[cfg(test)]

@@ -1,10 +1,5 @@
-pub mod Counts
-pub mod Cuts
 pub mod Endings
-pub mod Kept
-pub mod LineLaws
-pub mod OneReading
+pub mod FirstColumn
 pub mod RowWorld
+pub mod TableNames
 pub mod TableRows
-pub mod Taking
-pub mod ThreeFields

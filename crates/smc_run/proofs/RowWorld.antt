@@ -8,8 +8,8 @@ use Rattle.smc_words.specs.Number.{number_cmp}
 use Rattle.smc_model.specs.World.{World, Replay, IsAllowed, world_after, object_of, count_of, total_of, HasField, empty_world}
 use Rattle.smc_model.proofs.WorldLaws.{object_of-added, object_of-empty, count_of-added, count_of-empty, total_of-added, total_of-empty, HasField-added, HasField-empty}
 use Rattle.smc_model.specs.declared.event.Event.{Event}
-use Rattle.smc_run.specs.declared.tbl.row.Row.{Row}
-use Rattle.smc_run.specs.Tally.{row_number, row_event_of, row_events}
+use Rattle.smc_types.specs.declared.row.Value.{Value}
+use Rattle.smc_run.specs.Tally.{first_count, row_number, row_event_of, row_events}
 
 -- an event that fits the last world is added to the replay
 pub Replay-push : (first world : World) (events : List Event) (event : Event) → Replay first events world → IsAllowed world event
@@ -20,14 +20,14 @@ Replay-push first world [] event replay fits =
 Replay-push first world (other ∷ events) event replay fits = (replay.0, Replay-push (world_after first other) world events event replay.1 fits)
 
 -- the row behind the others is added last
-pub row_events-push : (place : ℕ) (rows : List Row) (row : Row) → row_events place (rows ++ row ∷ []) ≡ row_events place rows ++ row_event_of (place + length rows) row.regionkey ∷ []
-row_events-push place [] row = ap (λ n. row_event_of n row.regionkey ∷ []) (sym (add-zero place))
+pub row_events-push : (place : ℕ) (rows : List (List Value)) (row : List Value) → row_events place (rows ++ row ∷ []) ≡ row_events place rows ++ row_event_of (place + length rows) (first_count row) ∷ []
+row_events-push place [] row = ap (λ n. row_event_of n (first_count row) ∷ []) (sym (add-zero place))
 row_events-push place (other ∷ rows) row =
     let same : place + 1 + length rows ≡ place + length (other ∷ rows) = omega arith in
-    ap (λ events. row_event_of place other.regionkey ∷ events)
-    (row_events-push (place + 1) rows row ∙ ap (λ n. row_events (place + 1) rows ++ row_event_of n row.regionkey ∷ []) same)
+    ap (λ events. row_event_of place (first_count other) ∷ events)
+    (row_events-push (place + 1) rows row ∙ ap (λ n. row_events (place + 1) rows ++ row_event_of n (first_count row) ∷ []) same)
 
--- no number from this place on is given, and each row has its key
+-- no number from this place on is given, and each row has its first column
 pub record IsReady (world : World) (place : ℕ) : Type 0 where
   pub unused : (later : ℕ) → place ≤ later → object_of world (row_number later) ≡ None
   pub field : HasField world 0 0
@@ -49,30 +49,30 @@ IsReady-added world place key ready = record {
 }
 
 -- what the rows that were added make of a world
-pub record HasGrown (rows : List Row) (place : ℕ) (first world : World) : Type 0 where
+pub record HasGrown (rows : List (List Value)) (place : ℕ) (first world : World) : Type 0 where
   pub count : count_of world 0 ≡ count_of first 0 + length rows
-  pub total : total_of world 0 0 ≡ total_of first 0 0 + sum_by (λ row. row.regionkey) rows
+  pub total : total_of world 0 0 ≡ total_of first 0 0 + sum_by first_count rows
   pub ready : IsReady world (place + length rows)
 
-pub grown : (rows : List Row) (place : ℕ) (first world : World) → IsReady first place → Replay first (row_events place rows) world → HasGrown rows place first world
+pub grown : (rows : List (List Value)) (place : ℕ) (first world : World) → IsReady first place → Replay first (row_events place rows) world → HasGrown rows place first world
 grown [] place first world ready replay =
     let P : World → Type 0 = λ w. HasGrown [] place first w in
     subst P (sym replay) (record { count = sym (add-zero _); total = sym (add-zero _); ready = rw (add-zero place) ready })
 grown (row ∷ rows) place first world ready replay =
-    let event = row_event_of place row.regionkey in
+    let event = row_event_of place (first_count row) in
     let free = ready.unused place (omega arith) in
-    let next = IsReady-added first place row.regionkey ready in
+    let next = IsReady-added first place (first_count row) ready in
     let later = grown rows (place + 1) (world_after first event) world next replay.1 in
-    let count : count_of (world_after first event) 0 ≡ count_of first 0 + 1 = count_of-added first (row_number place) 0 (row.regionkey ∷ []) free 0 in
-    let total : total_of (world_after first event) 0 0 ≡ total_of first 0 0 + row.regionkey = total_of-added first (row_number place) 0 (row.regionkey ∷ []) free 0 0 in
+    let count : count_of (world_after first event) 0 ≡ count_of first 0 + 1 = count_of-added first (row_number place) 0 (first_count row ∷ []) free 0 in
+    let total : total_of (world_after first event) 0 0 ≡ total_of first 0 0 + first_count row = total_of-added first (row_number place) 0 (first_count row ∷ []) free 0 0 in
     let size : place + 1 + length rows ≡ place + length (row ∷ rows) = omega arith in
     record {
       count = omega (arith, later.count, count);
-      total = omega (arith, later.total, total, sum_by-cons (λ (r : Row). r.regionkey) row rows);
+      total = omega (arith, later.total, total, sum_by-cons first_count row rows);
       ready = rw (← size) later.ready;
     }
 
-module _ (rows : List Row) (world : World) (added : Replay empty_world (row_events 0 rows) world) where
+module _ (rows : List (List Value)) (world : World) (added : Replay empty_world (row_events 0 rows) world) where
   all_grown : HasGrown rows 0 empty_world world
   all_grown = grown rows 0 empty_world world IsReady-empty added
 
@@ -80,11 +80,11 @@ module _ (rows : List Row) (world : World) (added : Replay empty_world (row_even
   pub row_count : count_of world 0 ≡ length rows
   row_count = let all = all_grown in omega (arith, all.count, count_of-empty 0)
 
-  -- the sum of their keys
-  pub row_total : total_of world 0 0 ≡ sum_by (λ row. row.regionkey) rows
+  -- the sum of their first columns
+  pub row_total : total_of world 0 0 ≡ sum_by first_count rows
   row_total = let all = all_grown in omega (arith, all.total, total_of-empty 0 0)
 
-  -- each object has its key
+  -- each object has its first column
   pub row_field : HasField world 0 0
   row_field = all_grown.ready.field
 
@@ -93,9 +93,9 @@ module _ (rows : List Row) (world : World) (added : Replay empty_world (row_even
   row_unused place count = all_grown.ready.unused place (omega arith)
 
   -- a row more
-  pub row_added : (next : World) (row : Row) (place : ℕ) → length rows ≡ place → next ≡ world_after world (row_event_of place row.regionkey)
+  pub row_added : (next : World) (row : List Value) (place : ℕ) → length rows ≡ place → next ≡ world_after world (row_event_of place (first_count row))
       → Replay empty_world (row_events 0 (rows ++ row ∷ [])) next
   row_added next row place count is =
-      let more = Replay-push empty_world world (row_events 0 rows) (row_event_of place row.regionkey) added (row_unused place count, refl) in
+      let more = Replay-push empty_world world (row_events 0 rows) (row_event_of place (first_count row)) added (row_unused place count, refl) in
       let here : 0 + length rows ≡ place = omega arith in
       rw (row_events-push 0 rows row, here, is) more

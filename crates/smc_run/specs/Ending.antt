@@ -1,7 +1,7 @@
 -- How the program ends.
 use Rattle.std.specs.Prelude.{ℕ, None}
-use Rattle.smc_run.specs.declared.tbl.fault.TblFault.{TblFault}
-use Rattle.smc_run.specs.declared.tbl.fault.TblFault.TheVariants as fault
+use Rattle.smc_tbl.specs.declared.fault.TblFault.{TblFault}
+use Rattle.smc_tbl.specs.declared.fault.TblFault.TheVariants as fault
 use Rattle.smc_run.specs.declared.status.Status.{Status}
 use Rattle.smc_run.specs.declared.status.Status.TheVariants.{Done, BadWords, BadTable, ReadFault, WriteFault, NoMemory}
 

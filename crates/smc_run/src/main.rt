@@ -1,13 +1,12 @@
 //! `smc`: the program. Its words say what it does; it reads standard input and writes standard output.
 //!
-//! `top` does all of it over any source and sink, `tally` reads a table and tells how many rows it has, `tbl` is the
-//! reader of table text, and `status` says how the program ends. It stands on all other crates, and nothing stands on
+//! `top` does all of it over any source and sink, `tally` reads a table and tells how many rows it has, and `status` says
+//! how the program ends. It stands on all other crates, and nothing stands on
 //! it. Here only the real input and output are made; `specs/Tally.antt` defines what is read and written.
 #![tactic(auto)]
 
 pub mod status;
 pub mod tally;
-pub mod tbl;
 pub mod top;
 
 use smc_outside::{StdSink, StdSource};

@@ -1,21 +1,48 @@
-ghost use Rattle.std.specs.Prelude.{◌≡◌, ◌≢◌, ◌≤◌, ◌↔◌, IsTrue};
+ghost use Rattle.std.specs.Prelude.{◌≡◌, ◌≤◌, ◌-◌, ◌↔◌, None, IfSome, IfNone, IsSome, slice_get};
 ghost use Rattle.smc_outside.specs.Causes.{Rose};
-ghost use Rattle.smc_run.specs.declared.tbl.row.TheConstants.{REGION};
 ghost use Rattle.smc_run.specs.Tally.{ReadsToEnd, TallyEnds};
-ghost use Rattle.smc_run.specs.Words.{IsTally};
+ghost use Rattle.smc_run.specs.Words.{table_named, tallied};
+ghost use Rattle.smc_types.specs.Tables.{the_tables};
+ghost use Rattle.smc_types.specs.declared.catalog.TheConstants.{TABLE_COUNT};
 
 use crate::status::Status;
-use crate::tally::{REGION_TABLE, tally};
+use crate::tally::tally;
 use smc_outside::{Sink, Source};
+use smc_types::{CUSTOMER, LINEITEM, NATION, ORDERS, PART, PARTSUPP, REGION, SUPPLIER};
 use std::alloc::Global;
 
-// Whether the words ask for a tally of the table of regions.
-fn is_tally(words: &[String]) -> bool
-    ensures { IsTrue result ↔ IsTally words.now }
+// The number of the table of that name.
+fn table_number(name: &str) -> Option<u32>
+    ensures first { IfSome result (λ table. 1 ≤ table) }
+    ensures last { IfSome result (λ table. table ≤ TABLE_COUNT) }
+    ensures some { IfSome result (λ table. table_named name.now ≡ slice_get the_tables.schemas (table - 1)) }
+    ensures named { IfSome result (λ _. IsSome (table_named name.now)) }
+    ensures none { IfNone result (table_named name.now ≡ None) }
+{
+    match name {
+        "region" => Some(REGION),
+        "nation" => Some(NATION),
+        "supplier" => Some(SUPPLIER),
+        "customer" => Some(CUSTOMER),
+        "part" => Some(PART),
+        "partsupp" => Some(PARTSUPP),
+        "orders" => Some(ORDERS),
+        "lineitem" => Some(LINEITEM),
+        _ => None,
+    }
+}
+
+// The number of the table of which the words ask for a tally.
+fn table_asked(words: &[String]) -> Option<u32>
+    ensures first { IfSome result (λ table. 1 ≤ table) }
+    ensures last { IfSome result (λ table. table ≤ TABLE_COUNT) }
+    ensures some { IfSome result (λ table. tallied words.now ≡ slice_get the_tables.schemas (table - 1)) }
+    ensures asked { IfSome result (λ _. IsSome (tallied words.now)) }
+    ensures none { IfNone result (tallied words.now ≡ None) }
 {
     match words {
-        [command, table] => command.as_str() == "tally" && table.as_str() == "region",
-        _ => false,
+        [command, name] if command.as_str() == "tally" => table_number(name.as_str()),
+        _ => None,
     }
 }
 
@@ -26,17 +53,17 @@ pub fn top<I: Source, O: Sink>(
     input: &mut I,
     out: &mut O,
 ) -> Status
-    ensures words { (result ≡ Status.BadWords) ↔ ¬ IsTally words.now }
+    ensures words { (result ≡ Status.BadWords) ↔ (tallied words.now ≡ None) }
     ensures untouched { result ≡ Status.BadWords → (input.new ≡ input.old) × (out.new ≡ out.old) }
-    ensures ends { result ≢ Status.BadWords → TallyEnds REGION result (I.left input.old) (O.held out.old) (O.held out.new) }
+    ensures ends { IfSome (tallied words.now) (λ schema. TallyEnds schema result (I.left input.old) (O.held out.old) (O.held out.new)) }
     ensures read { ReadsToEnd result (I.left input.old) (I.left input.new) }
     ensures input_cause { result ≡ Status.ReadFault → Rose (I.faults input.old) (I.faults input.new) }
     ensures out_cause { result ≡ Status.WriteFault → Rose (O.faults out.old) (O.faults out.new) }
 {
-    if !is_tally(words) {
-        return Status::BadWords;
+    match table_asked(words) {
+        Some(table) => tally(alloc, table, input, out),
+        None => Status::BadWords,
     }
-    tally(alloc, REGION_TABLE, input, out)
 }
 
 #[cfg(test)]
@@ -91,6 +118,27 @@ mod tests {
         ];
         for (case, (text, line, written)) in cases.iter().enumerate() {
             let (status, held) = run(rt.alloc(), &["tally", "region"], text, &[], &[], 64)?;
+            assert_eq!(rt; status.as_str(), *line, "at {case}");
+            assert_eq!(rt; held.as_slice(), written.as_bytes(), "at {case}");
+        }
+        Ok(())
+    }
+
+    #[test]
+    fn each_table_has_its_own_columns(rt: HostRuntime) -> Result<(), Fail> {
+        let item =
+            "1|155190|7706|1|17|21168.23|0.04|0.02|N|O|1996-03-13|1996-02-12|1996-03-22|DELIVER IN PERSON|TRUCK|egular courts above the|\n";
+        let nation = "23|UNITED KINGDOM|3|eans boost carefully|\n";
+        let refused = "smc: 3 bad table -, line 1";
+        let cases = [
+            ("lineitem", item, "smc: 0 done", "objects 1, sum 1\n"),
+            ("nation", nation, "smc: 0 done", "objects 1, sum 23\n"),
+            ("region", nation, refused, ""),
+            ("nation", item, refused, ""),
+            ("lineitem", nation, refused, ""),
+        ];
+        for (case, (table, text, line, written)) in cases.iter().enumerate() {
+            let (status, held) = run(rt.alloc(), &["tally", *table], text, &[], &[], 64)?;
             assert_eq!(rt; status.as_str(), *line, "at {case}");
             assert_eq!(rt; held.as_slice(), written.as_bytes(), "at {case}");
         }

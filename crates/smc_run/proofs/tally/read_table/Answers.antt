@@ -1,9 +1,16 @@
 use Rattle.std.proofs.Common.{◌≤◌, ◌-◌, ◌++◌, ◌∷◌, [], length, rules, arith, length-append}
-use Rattle.smc_run.specs.Reading.{untaken}
-use Rattle.smc_run.specs.declared.tbl.lines.TheConstants.{MAX_LINES}
+use Rattle.smc_tbl.specs.Reading.{untaken}
+use Rattle.smc_tbl.specs.declared.lines.TheConstants.{MAX_LINES}
 use Rattle.smc_run.proofs.RowWorld.{row_unused, row_added}
+use Rattle.smc_types.specs.Columns.{value_kinds}
+use Rattle.smc_run.proofs.FirstColumn.{counts-fit}
 use Rattle.smc_run.proofs.TableRows.{taken-more, taken-all, left-none, taken-refused}
 use Rattle.smc_run.proofs.tally.read_table.Goals as goal
+
+pub first_count-requires : goal.first_count-requires
+first_count-requires g c =
+    let fits = rw c.in-Ok-Some.field-0-is at c.in-Ok-Some.ensures.fits in
+    counts-fit (value_kinds c.args.schema.now.columns) c.in-Ok-Some.row c.requires fits
 
 pub add_row-requires : goal.add_row-requires
 add_row-requires g c =
@@ -25,7 +32,7 @@ loop-row-preserved g c =
       rows = (
         rows ++ row ∷ [],
         taken-more c.args.schema.now (left c.args.input.now) (untaken c.loop-row.lines (left c.loop-row.input)) (untaken c.next_row.new.lines (left c.next_row.new.source)) rows row taken reads,
-        row_added rows c.loop-row.model added c.add_row.new.model row (c.line.result - 1) (omega (arith, counted)) c.in_ok-add_row-in-Ok-Some.ensures.done,
+        row_added rows c.loop-row.model added c.add_row.new.model row (c.line.result - 1) (omega (arith, counted)) (rw c.first_count.ensures at c.in_ok-add_row-in-Ok-Some.ensures.done),
         omega (arith, length-append rows (row ∷ []), counted),
       );
       good = search rules;
@@ -58,5 +65,5 @@ returns-in-Err-clause-refused g c =
     let limit = rw good at next.limit in
     let counted = rw good at next.counted in
     rw (c.refusal.ensures, c.line-in-Err.ensures.value, counted)
-    (taken-refused c.args.schema.now (left c.args.input.now) (untaken c.loop-row.lines (left c.loop-row.input)) (untaken c.next_row.new.lines (left c.next_row.new.source)) rows c.in-Err.fault
+    (taken-refused c.args.schema.now (c.one_reading.ensures c.args.schema.now) (left c.args.input.now) (untaken c.loop-row.lines (left c.loop-row.input)) (untaken c.next_row.new.lines (left c.next_row.new.source)) rows c.in-Err.fault
     c.loop-row.lines.number taken reads limit count)

@@ -1,9 +1,9 @@
 use Rattle.std.proofs.Common.{◌≡◌, ◌≤◌, ◌-◌, List, None, length}
 use Rattle.smc_outside.specs.Told.{OnTold}
 use Rattle.smc_model.specs.World.{Replay, empty_world}
-use Rattle.smc_run.specs.declared.tbl.row.Row.{Row}
-use Rattle.smc_run.specs.declared.tbl.lines.TheConstants.{MAX_LINES}
-use Rattle.smc_run.specs.Reading.{untaken}
+use Rattle.smc_types.specs.declared.row.Value.{Value}
+use Rattle.smc_tbl.specs.declared.lines.TheConstants.{MAX_LINES}
+use Rattle.smc_tbl.specs.Reading.{untaken}
 use Rattle.smc_run.specs.Tally.{row_events}
 use Rattle.smc_run.proofs.TableRows.{HasTaken}
 use Rattle.smc_run.proofs.tally.read_table.Given as goal
@@ -13,7 +13,7 @@ abbrev pub invariant-loop-row : goal.invariant-loop-row
 invariant-loop-row g l =
     let left = g.I.Source.left in
     record {
-      rows : (rows : List Row) × OnTold (left l.fn.input) (untaken l.lines (left l.input)) (HasTaken l.schema rows) × Replay empty_world (row_events 0 rows) l.model
+      rows : (rows : List (List Value)) × OnTold (left l.fn.input) (untaken l.lines (left l.input)) (HasTaken l.schema rows) × Replay empty_world (row_events 0 rows) l.model
           × (length rows ≡ l.lines.number);
       good : l.lines.fault ≡ None;
       limit : l.lines.number ≤ MAX_LINES;

@@ -1,0 +1,17 @@
+pub mod Counts
+pub mod Cuts
+pub mod NumberLaws
+pub mod FieldLaws
+pub mod TextLaws
+pub mod KindLaws
+pub mod Kept
+pub mod LineLaws
+pub mod Taking
+pub mod OneReading
+pub mod DayCases
+pub mod ValueCases
+pub mod Existence
+pub mod PrintLaws
+pub mod FitLaws
+pub mod RespellLaws
+pub mod RoundTrip

@@ -1,0 +1,6 @@
+pub mod Column
+pub mod Fields
+pub mod Printed
+pub mod Reader
+pub mod Reading
+pub mod TableText
