@@ -3,21 +3,14 @@
 # runs of each, and their ratio.
 set -euo pipefail
 top=$(dirname "$(dirname "$(readlink -f "$0")")")
+source "$top/bench/best.sh"
 rows=2000000
 file=$(mktemp)
 trap 'rm -f "$file"' EXIT
 awk -v rows=$rows 'BEGIN { for (i = 0; i < rows; i++) printf "%d|REGION NAME %d|comment %d of a region|\n", i, i % 5, i }' >"$file"
 "$top/smc" tally region <"$file" 2>/dev/null # builds it where that is needed, and warms the file
 
-best() { # the shortest of five runs of a command, in seconds
-  for _ in 1 2 3 4 5; do
-    local start=$EPOCHREALTIME
-    "$@" <"$file" >/dev/null
-    echo "$EPOCHREALTIME $start"
-  done | awk '{ t = $1 - $2; if (NR == 1 || t < best) best = t } END { printf "%.3f\n", best }'
-}
-
-ours=$(best "$top/smc" tally region)
+ours=$(best "$top/crates/smc_run/out/smc_run" tally region)
 theirs=$(best awk -F'|' '{n++; s+=$1} END {print n, s}')
 echo "smc tally region  $ours s"
 echo "awk               $theirs s"

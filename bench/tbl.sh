@@ -4,6 +4,7 @@
 # the ratio to the reader.
 set -euo pipefail
 top=$(dirname "$(dirname "$(readlink -f "$0")")")
+source "$top/bench/best.sh"
 rows=500000
 file=$(mktemp)
 reader=$(mktemp)
@@ -12,14 +13,6 @@ awk -v rows=$rows 'BEGIN { for (i = 1; i <= rows; i++) printf "%d|%d|%d|%d|%d|%d
 rustc -O -o "$reader" "$top/bench/tbl.rs"
 "$top/smc" tally lineitem <"$file" 2>/dev/null # builds it where that is needed, and warms the file
 [ "$("$top/smc" tally lineitem <"$file")" = "$("$reader" <"$file")" ] || { echo "the two give different sums" >&2; exit 1; }
-
-best() { # the shortest of five runs of a command, in seconds
-  for _ in 1 2 3 4 5; do
-    local start=$EPOCHREALTIME
-    "$@" <"$file" >/dev/null
-    echo "$EPOCHREALTIME $start"
-  done | awk '{ t = $1 - $2; if (NR == 1 || t < best) best = t } END { printf "%.3f\n", best }'
-}
 
 ours=$(best "$top/crates/smc_run/out/smc_run" tally lineitem)
 theirs=$(best "$reader")

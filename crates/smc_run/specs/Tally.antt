@@ -11,7 +11,7 @@ use Rattle.smc_words.specs.declared.number.Number.{Number}
 use Rattle.smc_model.specs.declared.event.Event.{Event}
 use Rattle.smc_model.specs.declared.event.Event.TheVariants.{Add}
 use Rattle.smc_run.specs.declared.status.Status.{Status}
-use Rattle.smc_run.specs.declared.status.Status.TheVariants.{Done, BadWords, BadTable, ReadFault, WriteFault, NoMemory}
+use Rattle.smc_run.specs.declared.status.Status.TheVariants.{Done, BadWords, BadScript, BadTable, ReadFault, WriteFault, NoMemory}
 use Rattle.smc_types.specs.declared.column.FieldType.{FieldType}
 use Rattle.smc_types.specs.declared.column.FieldType.TheVariants.{Count}
 use Rattle.smc_types.specs.declared.row.Value.{Value}
@@ -78,6 +78,7 @@ TallyEnds schema (BadTable (Some _) line) text before after = ⊥
 TallyEnds schema ReadFault text before after = Keeps before after
 TallyEnds schema NoMemory text before after = Keeps before after
 TallyEnds schema BadWords text before after = ⊥
+TallyEnds schema (BadScript line) text before after = ⊥
 
 -- what a status says where the table was not read to its end
 abbrev pub Refuses : Schema → Status → Option (List ℕ) → Type 0

@@ -1,10 +1,11 @@
 //! `smc`: the program. Its words say what it does; it reads standard input and writes standard output.
 //!
-//! `top` does all of it over any source and sink, `tally` reads a table and tells how many rows it has, and `status` says
-//! how the program ends. It stands on all other crates, and nothing stands on
-//! it. Here only the real input and output are made; `specs/Tally.antt` defines what is read and written.
+//! `top` does all of it over any source and sink: `tally` reads a table and tells how many rows it has, `play` plays a
+//! schedule on the machine, and `status` says how the program ends. Nothing stands on it. Here only the real input and
+//! output are made; `specs/Tally.antt` and `specs/Play.antt` define what is read and written.
 #![tactic(auto)]
 
+pub mod play;
 pub mod status;
 pub mod tally;
 pub mod top;

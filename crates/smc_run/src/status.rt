@@ -50,6 +50,8 @@ pub enum Status {
     Done,
     /// The words of the command line are no command.
     BadWords,
+    /// The first line of a schedule that is refused, from 1.
+    BadScript { line: u64 },
     /// The first line of a table that is no row of it, from 1; `None` is the table on standard input.
     BadTable { file: Option<FileName>, line: u64 },
     /// The input failed.
@@ -71,6 +73,7 @@ impl Status {
         match self {
             Status::Done => 0,
             Status::BadWords => 1,
+            Status::BadScript { .. } => 2,
             Status::BadTable { .. } => 3,
             Status::ReadFault => 5,
             Status::WriteFault => 6,
@@ -86,6 +89,7 @@ impl fmt::Display for Status {
         match self {
             Status::Done => write!(f, "done"),
             Status::BadWords => write!(f, "bad words"),
+            Status::BadScript { line } => write!(f, "bad script, line {line}"),
             Status::BadTable { file: None, line } => write!(f, "bad table -, line {line}"),
             Status::BadTable {
                 file: Some(file),
@@ -116,6 +120,7 @@ mod tests {
         let file = FileName::of("region.tbl".to_string(rt.alloc())?);
         let cases = [
             (Status::BadWords, "smc: 1 bad words"),
+            (Status::BadScript { line: 12 }, "smc: 2 bad script, line 12"),
             (
                 Status::BadTable {
                     file: None,

@@ -1,10 +1,12 @@
-ghost use Rattle.std.specs.Prelude.{◌≡◌, ◌≤◌, ◌-◌, ◌↔◌, None, IfSome, IfNone, IsSome, slice_get};
+ghost use Rattle.std.specs.Prelude.{◌≡◌, ◌≤◌, ◌-◌, ◌↔◌, true, false, None, IfSome, IfNone, IsSome, slice_get};
 ghost use Rattle.smc_outside.specs.Causes.{Rose};
+ghost use Rattle.smc_run.specs.Play.{PlaysAs};
 ghost use Rattle.smc_run.specs.Tally.{ReadsToEnd, TallyEnds};
-ghost use Rattle.smc_run.specs.Words.{table_named, tallied};
+ghost use Rattle.smc_run.specs.Words.{plays, table_named, tallied};
 ghost use Rattle.smc_types.specs.Tables.{the_tables};
 ghost use Rattle.smc_types.specs.declared.catalog.TheConstants.{TABLE_COUNT};
 
+use crate::play::play;
 use crate::status::Status;
 use crate::tally::tally;
 use smc_outside::{Sink, Source};
@@ -46,6 +48,16 @@ fn table_asked(words: &[String]) -> Option<u32>
     }
 }
 
+// Whether the words ask that a schedule is played.
+fn asks_play(words: &[String]) -> bool
+    ensures { result ≡ plays words.now }
+{
+    match words {
+        [command] => command.as_str() == "play",
+        _ => false,
+    }
+}
+
 /// All that the program does: what its words ask for, or `BadWords` before anything is read.
 pub fn top<I: Source, O: Sink>(
     alloc: Global,
@@ -53,13 +65,17 @@ pub fn top<I: Source, O: Sink>(
     input: &mut I,
     out: &mut O,
 ) -> Status
-    ensures words { (result ≡ Status.BadWords) ↔ (tallied words.now ≡ None) }
+    ensures words { (result ≡ Status.BadWords) ↔ ((tallied words.now ≡ None) × (plays words.now ≡ false)) }
     ensures untouched { result ≡ Status.BadWords → (input.new ≡ input.old) × (out.new ≡ out.old) }
     ensures ends { IfSome (tallied words.now) (λ schema. TallyEnds schema result (I.left input.old) (O.held out.old) (O.held out.new)) }
+    ensures played { plays words.now ≡ true → PlaysAs result (I.left input.old) (O.held out.old) (O.held out.new) }
     ensures read { ReadsToEnd result (I.left input.old) (I.left input.new) }
     ensures input_cause { result ≡ Status.ReadFault → Rose (I.faults input.old) (I.faults input.new) }
     ensures out_cause { result ≡ Status.WriteFault → Rose (O.faults out.old) (O.faults out.new) }
 {
+    if asks_play(words) {
+        return play(alloc, input, out);
+    }
     match table_asked(words) {
         Some(table) => tally(alloc, table, input, out),
         None => Status::BadWords,
@@ -146,6 +162,29 @@ mod tests {
     }
 
     #[test]
+    fn schedules_are_played(rt: HostRuntime) -> Result<(), Fail> {
+        let cases = [
+            (
+                "shape 1 1 64\n0 enter !\n0 leave !\n",
+                "smc: 0 done",
+                "0 enter at 2\n0 leave out\n",
+            ),
+            (
+                "shape 1 1 64\n0 enter !\n0 enter !\n",
+                "smc: 2 bad script, line 3",
+                "0 enter at 2\n",
+            ),
+            ("", "smc: 2 bad script, line 1", ""),
+        ];
+        for (case, (text, line, written)) in cases.iter().enumerate() {
+            let (status, held) = run(rt.alloc(), &["play"], text, &[], &[], 64)?;
+            assert_eq!(rt; status.as_str(), *line, "at {case}");
+            assert_eq!(rt; held.as_slice(), written.as_bytes(), "at {case}");
+        }
+        Ok(())
+    }
+
+    #[test]
     fn faults_outside_are_told(rt: HostRuntime) -> Result<(), Fail> {
         let text = "0|AFRICA|a|\n4|MIDDLE EAST|b|\n";
         // The reads and the writes that fail, the room for output, the status, and what was written.
@@ -192,6 +231,8 @@ mod tests {
             &["tally", "Region"],
             &["tally", "region", "x"],
             &["--", "tally", "region"],
+            &["play", "x"],
+            &["Play"],
             &["help"],
         ];
         for (case, words) in cases.iter().enumerate() {

@@ -1,0 +1,5 @@
+pub mod Begun
+pub mod Turns
+pub mod Plays
+pub mod Texts
+pub mod Ending
