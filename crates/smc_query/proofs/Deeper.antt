@@ -4,8 +4,8 @@ use Rattle.smc_tokens.specs.declared.token.Token.{Token}
 use Rattle.smc_tokens.specs.declared.token.Token.TheVariants.{Name, Word, Date, Number, Text, Sign}
 use Rattle.smc_tokens.specs.declared.reserved.Reserved.TheVariants as words
 use Rattle.smc_tokens.specs.declared.sign.Sign.TheVariants as signs
-use Rattle.smc_lang.specs.Trees.{ExprTree, sum, difference, product, minus, CondTree, either, both, negation, CallTree}
-use Rattle.smc_lang.specs.Machine.{Step, goes, wrong, deep, Plan, done, must, may, name, whole, names, factor, factors, terms, neg, compared, negs, conjs, paths, call, items, keys, is_mark, path, term, expr, conj, cond, item, key, opened, factor_step, neg_step, compared_step, call_step, name_step, whole_step, step, ended}
+use Rattle.smc_query.specs.Trees.{ExprTree, sum, difference, product, minus, CondTree, either, both, negation, CallTree}
+use Rattle.smc_query.specs.Machine.{Step, goes, wrong, deep, Plan, done, must, may, name, whole, names, factor, factors, terms, neg, compared, negs, conjs, paths, call, items, keys, is_mark, path, term, expr, conj, cond, item, key, opened, factor_step, neg_step, compared_step, call_step, name_step, whole_step, step, ended}
 
 -- the plan in which one more may be open
 unfoldable pub deeper : Plan → Plan

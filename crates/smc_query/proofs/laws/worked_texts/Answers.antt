@@ -1,5 +1,5 @@
-use Rattle.smc_lang.proofs.ExampleLaws.{counts-regions, pairs-from-the-left, pairs-in-parentheses, binds-and-closer, keeps-its-words, counts-whole-rows, nests-twice}
-use Rattle.smc_lang.proofs.laws.worked_texts.Goals as goal
+use Rattle.smc_query.proofs.ExampleLaws.{counts-regions, pairs-from-the-left, pairs-in-parentheses, binds-and-closer, keeps-its-words, counts-whole-rows, nests-twice}
+use Rattle.smc_query.proofs.laws.worked_texts.Goals as goal
 
 pub returns : goal.returns
 returns c = record {

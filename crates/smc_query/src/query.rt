@@ -30,11 +30,11 @@ pub struct Items {
 
 impl Model for Items {
     ghost use Rattle.std.specs.Prelude.{List};
-    ghost use Rattle.smc_lang.specs.declared.query.Item.{Item};
+    ghost use Rattle.smc_query.specs.declared.query.Item.{Item};
 
     ghost Value = { List Item };
 
-    ghost use Rattle.smc_lang.specs.contracts.expr.Expr as expressions;
+    ghost use Rattle.smc_query.specs.contracts.expr.Expr as expressions;
     ghost use Rattle.std.specs.Coded.{codes};
 
     ghost coded = { Prim.hlevel (codes, expressions.the_row.coded) };
@@ -73,7 +73,7 @@ pub struct SortKeys {
 
 impl Model for SortKeys {
     ghost use Rattle.std.specs.Prelude.{List};
-    ghost use Rattle.smc_lang.specs.declared.query.SortKey.{SortKey};
+    ghost use Rattle.smc_query.specs.declared.query.SortKey.{SortKey};
 
     ghost Value = { List SortKey };
 

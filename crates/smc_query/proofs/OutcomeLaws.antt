@@ -4,11 +4,11 @@ use Rattle.smc_tokens.specs.declared.token.Token.{Token}
 use Rattle.smc_tokens.specs.declared.token.Token.TheVariants.{Word, Sign}
 use Rattle.smc_tokens.specs.declared.reserved.Reserved.TheVariants as words
 use Rattle.smc_tokens.specs.declared.sign.Sign.TheVariants as signs
-use Rattle.smc_lang.specs.declared.cond.Op.{Op}
-use Rattle.smc_lang.specs.declared.cond.Op.TheVariants as ops
-use Rattle.smc_lang.specs.Trees.{PathTree, ExprTree, field, sum, difference, product, minus, CondTree, either, both, negation, comparison, within, total, average, least, greatest, CallTree, aggregate, fold, ItemTree, KeyTree, QueryTree, a_query as a_query_answer, a_cond, an_edit as an_edit_answer}
-use Rattle.smc_lang.specs.Grammar.{op_sign, ReadsPath, one_name, more_names, ReadsFactor, a_number, a_date, a_text, a_path, a_minus, parentheses, ReadsTerm, one_factor, a_product, ReadsExpr, one_term, a_sum, a_difference, ReadsNeg, a_negation, brackets, a_comparison, a_range, ReadsConj, one_neg, an_and, ReadsCond, one_conj, an_or, ReadsCall, a_count, an_aggregate, a_fold, ReadsItem, unnamed, named, ReadsItems, one_item, more_items, ReadsPaths, one_path, more_paths, ReadsKey, rising, falling, ReadsKeys, one_key, more_keys, ReadsFilter, no_filter, a_filter, ReadsBy, no_by, a_by, ReadsSort, no_sort, a_sort, ReadsFirst, no_first, a_first, ReadsQuery, a_query, ReadsEdit, an_edit}
-use Rattle.smc_lang.specs.Machine.{built, Plan, done, must, may, name, names, factor, factors, terms, neg, compared, negs, conjs, paths, call, items, keys, path, term, expr, conj, cond, item, key, filter, by, sort, first, from_first, from_sort, from_items, from_by, query, condition, edit, step, ended, outcome, sees}
+use Rattle.smc_query.specs.declared.cond.Op.{Op}
+use Rattle.smc_query.specs.declared.cond.Op.TheVariants as ops
+use Rattle.smc_query.specs.Trees.{PathTree, ExprTree, field, sum, difference, product, minus, CondTree, either, both, negation, comparison, within, total, average, least, greatest, CallTree, aggregate, fold, ItemTree, KeyTree, QueryTree, a_query as a_query_answer, a_cond, an_edit as an_edit_answer}
+use Rattle.smc_query.specs.Grammar.{op_sign, ReadsPath, one_name, more_names, ReadsFactor, a_number, a_date, a_text, a_path, a_minus, parentheses, ReadsTerm, one_factor, a_product, ReadsExpr, one_term, a_sum, a_difference, ReadsNeg, a_negation, brackets, a_comparison, a_range, ReadsConj, one_neg, an_and, ReadsCond, one_conj, an_or, ReadsCall, a_count, an_aggregate, a_fold, ReadsItem, unnamed, named, ReadsItems, one_item, more_items, ReadsPaths, one_path, more_paths, ReadsKey, rising, falling, ReadsKeys, one_key, more_keys, ReadsFilter, no_filter, a_filter, ReadsBy, no_by, a_by, ReadsSort, no_sort, a_sort, ReadsFirst, no_first, a_first, ReadsQuery, a_query, ReadsEdit, an_edit}
+use Rattle.smc_query.specs.Machine.{built, Plan, done, must, may, name, names, factor, factors, terms, neg, compared, negs, conjs, paths, call, items, keys, path, term, expr, conj, cond, item, key, filter, by, sort, first, from_first, from_sort, from_items, from_by, query, condition, edit, step, ended, outcome, sees}
 
 -- what can't go on as an expression
 pub record Closed (r : List Token) : Type 0 where

@@ -1,8 +1,8 @@
 -- The first token at which a list of tokens can't be a text of a form, or at which it nests too deeply.
 use Rattle.std.specs.Prelude.{ℕ, List, [], ◌∷◌, ◌++◌}
 use Rattle.smc_tokens.specs.declared.token.Token.{Token}
-use Rattle.smc_lang.specs.Trees.{Answer, Form}
-use Rattle.smc_lang.specs.Grammar.{Spells}
+use Rattle.smc_query.specs.Trees.{Answer, Form}
+use Rattle.smc_query.specs.Grammar.{Spells}
 
 -- some text of the form, in which at most so many are open at one place, begins with these tokens
 abbrev pub Begins : Form → ℕ → List Token → Type 0

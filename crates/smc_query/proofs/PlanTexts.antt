@@ -1,15 +1,15 @@
 -- The texts of a plan: what a plan is built of, a text of it spells; and every plan has a text.
 use Rattle.std.proofs.Common.{◌≡◌, ℕ, zero, suc, Bool, true, false, if◌then◌else◌, List, [], ◌∷◌, ◌++◌, Option, Some, None, refl, sym, subst, ◌⊎◌, inl, inr}
-use Rattle.smc_lang.proofs.MarkLaws.{is_mark-is}
+use Rattle.smc_query.proofs.MarkLaws.{is_mark-is}
 use Rattle.smc_tokens.specs.declared.token.Token.{Token}
 use Rattle.smc_tokens.specs.declared.token.Token.TheVariants.{Name, Word, Date, Number, Text, Sign}
 use Rattle.smc_tokens.specs.declared.reserved.Reserved.TheVariants as words
 use Rattle.smc_tokens.specs.declared.sign.Sign.TheVariants as signs
-use Rattle.smc_lang.specs.declared.cond.Op.{Op}
-use Rattle.smc_lang.specs.declared.cond.Op.TheVariants as ops
-use Rattle.smc_lang.specs.Trees.{PathTree, ExprTree, number, sum, difference, product, CondTree, either, both, comparison, Aggregate, total, average, least, greatest, CallTree, count, aggregate, fold, ItemTree, KeyTree, QueryTree, Answer, a_query as query_answer, an_edit as edit_answer, Form, query_text, cond_text, edit_text}
-use Rattle.smc_lang.specs.Grammar.{Spells, op_sign, aggregate_word, ReadsPath, one_name, more_names, ReadsFactor, a_number, a_date, a_text, a_path, a_minus, parentheses, ReadsTerm, one_factor, a_product, ReadsExpr, one_term, a_sum, a_difference, ReadsNeg, a_negation, brackets, a_comparison, a_range, ReadsConj, one_neg, an_and, ReadsCond, one_conj, an_or, ReadsCall, a_count, an_aggregate, a_fold, ReadsItem, unnamed, named, ReadsItems, one_item, more_items, ReadsPaths, one_path, more_paths, ReadsKey, rising, falling, ReadsKeys, one_key, more_keys, ReadsFilter, no_filter, a_filter, ReadsBy, no_by, a_by, ReadsSort, no_sort, a_sort, ReadsFirst, no_first, a_first, ReadsQuery, a_query, an_edit}
-use Rattle.smc_lang.specs.Machine.{Step, goes, wrong, deep, Plan, done, must, may, name, whole, names, factor, factors, terms, neg, compared, negs, conjs, paths, call, items, keys, is_mark, path, term, expr, conj, cond, item, key, filter, by, sort, from_first, from_sort, from_items, from_by, query, condition, edit, plan_of, factor_step, neg_step, right_side, compared_step, argument, call_step, name_step, whole_step, step}
+use Rattle.smc_query.specs.declared.cond.Op.{Op}
+use Rattle.smc_query.specs.declared.cond.Op.TheVariants as ops
+use Rattle.smc_query.specs.Trees.{PathTree, ExprTree, number, sum, difference, product, CondTree, either, both, comparison, Aggregate, total, average, least, greatest, CallTree, count, aggregate, fold, ItemTree, KeyTree, QueryTree, Answer, a_query as query_answer, an_edit as edit_answer, Form, query_text, cond_text, edit_text}
+use Rattle.smc_query.specs.Grammar.{Spells, op_sign, aggregate_word, ReadsPath, one_name, more_names, ReadsFactor, a_number, a_date, a_text, a_path, a_minus, parentheses, ReadsTerm, one_factor, a_product, ReadsExpr, one_term, a_sum, a_difference, ReadsNeg, a_negation, brackets, a_comparison, a_range, ReadsConj, one_neg, an_and, ReadsCond, one_conj, an_or, ReadsCall, a_count, an_aggregate, a_fold, ReadsItem, unnamed, named, ReadsItems, one_item, more_items, ReadsPaths, one_path, more_paths, ReadsKey, rising, falling, ReadsKeys, one_key, more_keys, ReadsFilter, no_filter, a_filter, ReadsBy, no_by, a_by, ReadsSort, no_sort, a_sort, ReadsFirst, no_first, a_first, ReadsQuery, a_query, an_edit}
+use Rattle.smc_query.specs.Machine.{Step, goes, wrong, deep, Plan, done, must, may, name, whole, names, factor, factors, terms, neg, compared, negs, conjs, paths, call, items, keys, is_mark, path, term, expr, conj, cond, item, key, filter, by, sort, from_first, from_sort, from_items, from_by, query, condition, edit, plan_of, factor_step, neg_step, right_side, compared_step, argument, call_step, name_step, whole_step, step}
 
 -- the tokens are a text of the plan, which makes this of it
 pub data IsText : Plan → List Token → Answer → Type 0 where

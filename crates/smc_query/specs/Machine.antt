@@ -5,9 +5,9 @@ use Rattle.smc_tokens.specs.declared.token.Token.{Token}
 use Rattle.smc_tokens.specs.declared.token.Token.TheVariants.{Name, Word, Date, Number, Text, Sign}
 use Rattle.smc_tokens.specs.declared.reserved.Reserved.TheVariants as words
 use Rattle.smc_tokens.specs.declared.sign.Sign.TheVariants as signs
-use Rattle.smc_lang.specs.declared.cond.Op.{Op}
-use Rattle.smc_lang.specs.declared.cond.Op.TheVariants as ops
-use Rattle.smc_lang.specs.Trees.{PathTree, ExprTree, number, date, text, field, sum, difference, product, minus, CondTree, either, both, negation, comparison, within, total, average, least, greatest, CallTree, count, aggregate, fold, ItemTree, KeyTree, Answer, a_query, a_cond, an_edit, Form, query_text, cond_text, edit_text}
+use Rattle.smc_query.specs.declared.cond.Op.{Op}
+use Rattle.smc_query.specs.declared.cond.Op.TheVariants as ops
+use Rattle.smc_query.specs.Trees.{PathTree, ExprTree, number, date, text, field, sum, difference, product, minus, CondTree, either, both, negation, comparison, within, total, average, least, greatest, CallTree, count, aggregate, fold, ItemTree, KeyTree, Answer, a_query, a_cond, an_edit, Form, query_text, cond_text, edit_text}
 
 -- What is still to come; the number is how much more may be opened there, in a call, its items and a query: within a call.
 -- A part that makes a tree hands it to what comes behind it.

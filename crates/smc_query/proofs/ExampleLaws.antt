@@ -1,11 +1,11 @@
 -- The short texts, computed.
 use Rattle.std.proofs.Common.{◌≡◌, ℕ, suc, List, drop, refl, None}
 use Rattle.smc_tokens.specs.declared.token.Token.{Token}
-use Rattle.smc_lang.specs.Trees.{number, minus, an_edit, Answer, Form, query_text, cond_text, edit_text}
-use Rattle.smc_lang.specs.Grammar.{Spells}
-use Rattle.smc_lang.specs.Machine.{built, stuck, too_deep, outcome, plan_of, step, ended}
-use Rattle.smc_lang.specs.Examples.{regions_text, regions_query, left_text, left_edit, right_text, right_edit, chain_text, chain_cond, word_text, half_text, minus_text, CountsRegions, PairsFromTheLeft, PairsInParentheses, BindsAndCloser, KeepsItsWords, CountsWholeRows, NestsTwice}
-use Rattle.smc_lang.proofs.StopLaws.{built-spells, spelled-exactly}
+use Rattle.smc_query.specs.Trees.{number, minus, an_edit, Answer, Form, query_text, cond_text, edit_text}
+use Rattle.smc_query.specs.Grammar.{Spells}
+use Rattle.smc_query.specs.Machine.{built, stuck, too_deep, outcome, plan_of, step, ended}
+use Rattle.smc_query.specs.Examples.{regions_text, regions_query, left_text, left_edit, right_text, right_edit, chain_text, chain_cond, word_text, half_text, minus_text, CountsRegions, PairsFromTheLeft, PairsInParentheses, BindsAndCloser, KeepsItsWords, CountsWholeRows, NestsTwice}
+use Rattle.smc_query.proofs.StopLaws.{built-spells, spelled-exactly}
 
 stuck-refuses : (form : Form) (d : ℕ) (s r : List Token) (a : Answer) → outcome (plan_of form d) s ≡ stuck r → Spells form (suc d) s a → ⊥
 stuck-refuses form d s r a e h = let g : outcome (plan_of form d) s ≡ built a = spelled-exactly form d s a h in cc

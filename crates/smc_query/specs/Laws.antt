@@ -1,9 +1,9 @@
 -- What the grammar says of all lists of tokens.
 use Rattle.std.specs.Prelude.{◌≡◌, ◌⊎◌, ℕ, suc, List, ◌++◌}
 use Rattle.smc_tokens.specs.declared.token.Token.{Token}
-use Rattle.smc_lang.specs.Trees.{Answer, Form}
-use Rattle.smc_lang.specs.Grammar.{Spells}
-use Rattle.smc_lang.specs.Faults.{Begins, IsWrongBehind, IsTooDeepBehind}
+use Rattle.smc_query.specs.Trees.{Answer, Form}
+use Rattle.smc_query.specs.Grammar.{Spells}
+use Rattle.smc_query.specs.Faults.{Begins, IsWrongBehind, IsTooDeepBehind}
 
 -- a list of tokens spells one thing at most, however deep
 abbrev pub SpellsOne : Type 0

@@ -47,7 +47,7 @@ pub struct Paths {
 
 impl Model for Paths {
     ghost use Rattle.std.specs.Prelude.{List};
-    ghost use Rattle.smc_lang.specs.declared.path.Path.{Path};
+    ghost use Rattle.smc_query.specs.declared.path.Path.{Path};
 
     ghost Value = { List Path };
 

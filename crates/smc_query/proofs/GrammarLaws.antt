@@ -2,12 +2,12 @@
 use Rattle.std.proofs.Common.{◌≡◌, ◌⊎◌, inl, inr, ℕ, suc, ◌+◌, List, [], ◌∷◌, ◌++◌, append_assoc, refl, sym, ◌∙◌, subst, add_comm}
 use Rattle.std.proofs.lemmas.List.{append-nil}
 use Rattle.smc_tokens.specs.declared.token.Token.{Token}
-use Rattle.smc_lang.specs.Trees.{Answer, Form}
-use Rattle.smc_lang.specs.Grammar.{Spells}
-use Rattle.smc_lang.specs.Machine.{Outcome, built, stuck, too_deep, outcome, plan_of}
-use Rattle.smc_lang.specs.Faults.{Begins, IsWrongBehind, IsTooDeepBehind}
-use Rattle.smc_lang.specs.Laws.{SpellsOne, IsSpelled, IsFault, SpellsOrStops, SpelledNeverStops, FrontsBegin}
-use Rattle.smc_lang.proofs.StopLaws.{built-more, spelled-built, built-spells, stuck-is-wrong, deep-is-too-deep}
+use Rattle.smc_query.specs.Trees.{Answer, Form}
+use Rattle.smc_query.specs.Grammar.{Spells}
+use Rattle.smc_query.specs.Machine.{Outcome, built, stuck, too_deep, outcome, plan_of}
+use Rattle.smc_query.specs.Faults.{Begins, IsWrongBehind, IsTooDeepBehind}
+use Rattle.smc_query.specs.Laws.{SpellsOne, IsSpelled, IsFault, SpellsOrStops, SpelledNeverStops, FrontsBegin}
+use Rattle.smc_query.proofs.StopLaws.{built-more, spelled-built, built-spells, stuck-is-wrong, deep-is-too-deep}
 
 pub spells-one : SpellsOne
 spells-one form d e s one two h g =

@@ -4,10 +4,10 @@ use Rattle.smc_tokens.specs.declared.token.Token.{Token}
 use Rattle.smc_tokens.specs.declared.token.Token.TheVariants.{Name, Word, Number, Sign}
 use Rattle.smc_tokens.specs.declared.reserved.Reserved.TheVariants as words
 use Rattle.smc_tokens.specs.declared.sign.Sign.TheVariants as signs
-use Rattle.smc_lang.specs.declared.cond.Op.TheVariants as ops
-use Rattle.smc_lang.specs.Trees.{ExprTree, number, difference, CondTree, either, both, comparison, count, Answer, a_query, a_cond, an_edit, query_text, cond_text, edit_text}
-use Rattle.smc_lang.specs.Grammar.{Spells}
-use Rattle.smc_lang.specs.Laws.{IsSpelled}
+use Rattle.smc_query.specs.declared.cond.Op.TheVariants as ops
+use Rattle.smc_query.specs.Trees.{ExprTree, number, difference, CondTree, either, both, comparison, count, Answer, a_query, a_cond, an_edit, query_text, cond_text, edit_text}
+use Rattle.smc_query.specs.Grammar.{Spells}
+use Rattle.smc_query.specs.Laws.{IsSpelled}
 
 -- a whole number as a token, and as a tree
 abbrev pub digit : ℕ → Token

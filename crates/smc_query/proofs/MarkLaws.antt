@@ -9,7 +9,7 @@ use Rattle.smc_tokens.specs.declared.reserved.Reserved.{Reserved}
 use Rattle.smc_tokens.specs.declared.reserved.Reserved.TheVariants.{From, Where, By, Show, Sort, First, As, And, Or, Not, Between, Desc, Sum, Avg, Min, Max, Count, Fold}
 use Rattle.smc_tokens.specs.declared.sign.Sign.{Sign}
 use Rattle.smc_tokens.specs.declared.sign.Sign.TheVariants.{Equal, Unequal, Less, LessEqual, Greater, GreaterEqual, Plus, Minus, Star, Open, Close, OpenBracket, CloseBracket, Comma, Dot}
-use Rattle.smc_lang.specs.Machine.{is_mark}
+use Rattle.smc_query.specs.Machine.{is_mark}
 
 -- the word at a place of the list of words
 word_at : ℕ → Reserved

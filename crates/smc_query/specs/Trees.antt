@@ -1,16 +1,16 @@
 -- Queries as trees alone, without where in memory their parts stand.
 use Rattle.std.specs.Prelude.{ℕ, Bool, List, map, Option, Some, None}
-use Rattle.smc_lang.specs.declared.path.Path.{Path}
-use Rattle.smc_lang.specs.declared.expr.Expr.{Expr}
-use Rattle.smc_lang.specs.declared.expr.Expr.TheVariants.{Number, Date, Text, Field, Add', Sub', Mul', Minus'}
-use Rattle.smc_lang.specs.declared.cond.Op.{Op}
-use Rattle.smc_lang.specs.declared.cond.Cond.{Cond}
-use Rattle.smc_lang.specs.declared.cond.Cond.TheVariants.{Or', And', Not', Compare, Between}
-use Rattle.smc_lang.specs.declared.query.ItemCall.{ItemCall}
-use Rattle.smc_lang.specs.declared.query.ItemCall.TheVariants.{Count, Sum, Avg, Min, Max, Fold}
-use Rattle.smc_lang.specs.declared.query.Item.{Item}
-use Rattle.smc_lang.specs.declared.query.SortKey.{SortKey}
-use Rattle.smc_lang.specs.declared.query.Query.{Query}
+use Rattle.smc_query.specs.declared.path.Path.{Path}
+use Rattle.smc_query.specs.declared.expr.Expr.{Expr}
+use Rattle.smc_query.specs.declared.expr.Expr.TheVariants.{Number, Date, Text, Field, Add', Sub', Mul', Minus'}
+use Rattle.smc_query.specs.declared.cond.Op.{Op}
+use Rattle.smc_query.specs.declared.cond.Cond.{Cond}
+use Rattle.smc_query.specs.declared.cond.Cond.TheVariants.{Or', And', Not', Compare, Between}
+use Rattle.smc_query.specs.declared.query.ItemCall.{ItemCall}
+use Rattle.smc_query.specs.declared.query.ItemCall.TheVariants.{Count, Sum, Avg, Min, Max, Fold}
+use Rattle.smc_query.specs.declared.query.Item.{Item}
+use Rattle.smc_query.specs.declared.query.SortKey.{SortKey}
+use Rattle.smc_query.specs.declared.query.Query.{Query}
 
 -- the bytes of a name
 abbrev pub Word : Type 0

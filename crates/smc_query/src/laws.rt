@@ -1,5 +1,5 @@
-ghost use Rattle.smc_lang.specs.Laws.{SpellsOne, SpellsOrStops, SpelledNeverStops, FrontsBegin};
-ghost use Rattle.smc_lang.specs.Examples.{CountsRegions, PairsFromTheLeft, PairsInParentheses, BindsAndCloser, KeepsItsWords, CountsWholeRows, NestsTwice};
+ghost use Rattle.smc_query.specs.Laws.{SpellsOne, SpellsOrStops, SpelledNeverStops, FrontsBegin};
+ghost use Rattle.smc_query.specs.Examples.{CountsRegions, PairsFromTheLeft, PairsInParentheses, BindsAndCloser, KeepsItsWords, CountsWholeRows, NestsTwice};
 
 /// No list of tokens spells two things.
 pub fn one_tree()

@@ -1,14 +1,14 @@
 -- What the place means where a plan is stuck, or where too much is open: the first token of which no text goes on.
 use Rattle.std.proofs.Common.{◌≡◌, ℕ, zero, suc, ◌+◌, List, [], ◌∷◌, ◌++◌, append_assoc, Option, Some, None, refl, sym, ◌∙◌, ap, subst, arith, add_comm}
 use Rattle.std.proofs.lemmas.List.{append-nil}
-use Rattle.smc_lang.specs.Faults.{Begins, IsWrongToken, IsWrongEnd, IsWrongBehind, IsTooDeep, IsTooDeepBehind}
-use Rattle.smc_lang.proofs.OutcomeLaws.{query-built, cond-built, edit-built}
-use Rattle.smc_lang.proofs.PlanTexts.{IsText, ends, passed, with_names, with_factors, with_terms, with_negs, with_conjs, with_paths, with_items, with_keys, FollowsStep, has-text, back, plan-spells}
-use Rattle.smc_lang.proofs.Deeper.{deeper, BecomesDeeper, ended-deeper, step-deeper}
+use Rattle.smc_query.specs.Faults.{Begins, IsWrongToken, IsWrongEnd, IsWrongBehind, IsTooDeep, IsTooDeepBehind}
+use Rattle.smc_query.proofs.OutcomeLaws.{query-built, cond-built, edit-built}
+use Rattle.smc_query.proofs.PlanTexts.{IsText, ends, passed, with_names, with_factors, with_terms, with_negs, with_conjs, with_paths, with_items, with_keys, FollowsStep, has-text, back, plan-spells}
+use Rattle.smc_query.proofs.Deeper.{deeper, BecomesDeeper, ended-deeper, step-deeper}
 use Rattle.smc_tokens.specs.declared.token.Token.{Token}
-use Rattle.smc_lang.specs.Trees.{CallTree, ItemTree, QueryTree, Answer, a_query as query_answer, a_cond as cond_answer, an_edit as edit_answer, Form, query_text, cond_text, edit_text}
-use Rattle.smc_lang.specs.Grammar.{Spells, ReadsCall, ReadsItem, unnamed, named, ReadsItems, one_item, more_items, ReadsQuery, a_query}
-use Rattle.smc_lang.specs.Machine.{Step, goes, wrong, deep, Outcome, built, stuck, too_deep, onward, at_end, Plan, done, may, names, factors, terms, negs, conjs, paths, items, keys, query, condition, edit, plan_of, step, ended, outcome}
+use Rattle.smc_query.specs.Trees.{CallTree, ItemTree, QueryTree, Answer, a_query as query_answer, a_cond as cond_answer, an_edit as edit_answer, Form, query_text, cond_text, edit_text}
+use Rattle.smc_query.specs.Grammar.{Spells, ReadsCall, ReadsItem, unnamed, named, ReadsItems, one_item, more_items, ReadsQuery, a_query}
+use Rattle.smc_query.specs.Machine.{Step, goes, wrong, deep, Outcome, built, stuck, too_deep, onward, at_end, Plan, done, may, names, factors, terms, negs, conjs, paths, items, keys, query, condition, edit, plan_of, step, ended, outcome}
 
 -- ---- where more may be open
 

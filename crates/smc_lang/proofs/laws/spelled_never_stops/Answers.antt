@@ -1,5 +1,0 @@
-use Rattle.smc_lang.proofs.GrammarLaws.{spelled-never-stops}
-use Rattle.smc_lang.proofs.laws.spelled_never_stops.Goals as goal
-
-pub returns : goal.returns
-returns c = spelled-never-stops
