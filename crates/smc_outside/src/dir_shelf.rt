@@ -1,5 +1,6 @@
 // The files of the current folder, by name: the trusted edge, which tells no content of a file.
-ghost use Rattle.std.specs.Prelude.{◌≡◌, ◌≤◌, false, length, None, Ok, IfOk, IfSome};
+ghost use Rattle.std.specs.Prelude.{◌≡◌, ◌≤◌, ◌+◌, false, length, None, Some, Ok, IfOk, IfSome, string_bytes};
+ghost use Rattle.std.specs.Option.{option_map};
 ghost use Rattle.std.specs.Path.{IsWellFormedComponent, component_bytes};
 ghost use Rattle.smc_outside.specs.Causes.{HasCause, faults_after};
 ghost use Rattle.smc_outside.specs.Folder.{is_inside, leads_out};
@@ -72,7 +73,11 @@ fn leads_out(part: Component<'_>) -> bool
 }
 
 // The file that was read last, where this name and place go on with it.
-fn going_on<F: Drop>(last: Option<Opened<F>>, name: &str, at: u64) -> Option<Opened<F>> {
+fn going_on<F: Drop>(last: Option<Opened<F>>, name: &str, at: u64) -> Option<Opened<F>>
+    ensures last { IfSome result (λ opened. last ≡ Some opened) }
+    ensures name { IfSome result (λ opened. option_map string_bytes opened.name ≡ Some name.now) }
+    ensures place { IfSome result (λ opened. opened.place ≡ at) }
+{
     let opened = last?;
     let same = match &opened.name {
         Some(other) => other.as_str() == name,
@@ -105,7 +110,10 @@ fn find_file<R: Files>(
     last: Option<Opened<R::File>>,
     name: &str,
     at: u64,
-) -> io::Result<Option<Opened<R::File>>> {
+) -> io::Result<Option<Opened<R::File>>>
+    ensures place { IfOk result (λ found. IfSome found (λ opened. opened.place ≡ at)) }
+    ensures name { IfOk result (λ found. IfSome found (λ opened. IfSome opened.name (λ own. string_bytes own ≡ name.now))) }
+{
     if let Some(opened) = going_on(last, name, at) {
         return Ok(Some(opened));
     }
@@ -119,21 +127,30 @@ fn find_file<R: Files>(
     }))
 }
 
-// Reads the next piece of a file. At its end, and after a fault, it is closed.
+// The file behind a piece of so many bytes. At its end it is closed.
+fn behind<F: Drop>(mut opened: Opened<F>, count: usize) -> Option<Opened<F>>
+    ensures place { IfSome result (λ next. next.place ≡ opened.place + count) }
+    ensures name { IfSome result (λ next. next.name ≡ opened.name) }
+{
+    if count == 0 {
+        return None;
+    }
+    opened.place = opened.place.checked_add(count as u64)?;
+    Some(opened)
+}
+
+// Reads the next piece of a file. After a fault it is closed.
 fn read_on<F: Read + Drop>(
     mut opened: Opened<F>,
     buf: &mut [u8],
     last: &mut Option<Opened<F>>,
 ) -> io::Result<usize>
-    ensures { IfOk result (λ count. count ≤ length buf.new) }
+    ensures bound { IfOk result (λ count. count ≤ length buf.new) }
+    ensures place { IfOk result (λ count. IfSome last.new (λ next. next.place ≡ opened.place + count)) }
+    ensures name { IfOk result (λ count. IfSome last.new (λ next. next.name ≡ opened.name)) }
 {
     let count = opened.file.read(buf)?;
-    if let Some(place) = opened.place.checked_add(count as u64)
-        && count > 0
-    {
-        opened.place = place;
-        *last = Some(opened);
-    }
+    *last = behind(opened, count);
     Ok(count)
 }
 
