@@ -1,1 +1,3 @@
+mod DigitLaws
+mod Finding
 mod TokenLaws

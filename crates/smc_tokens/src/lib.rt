@@ -6,6 +6,10 @@
 //! token, and how a text falls into its longest tokens, is defined in `specs/Tokens.antt`.
 #![tactic(auto)]
 
+mod bytes;
+mod date;
+mod digits;
+mod found;
 pub mod laws;
 mod limits;
 mod name;
