@@ -49,3 +49,15 @@ value_more value i digit whole digits all less is same =
     let digit_is : digit ≡ digit_value next = omega arith in
     ap (λ d. digits_value_after 10 (value * 10 + d) (drop (i + 1) digits)) digit_is
     ∙ sym (ap (digits_value_after 10 value) (drop_more digits i 0 less)) ∙ same
+
+-- there is room for the digits before the point
+pub room_whole : (len : ℕ) → len ≤ 12 → (0 + 1) * 10 ^ len ≤ 10 ^ 16
+room_whole len few = let powers : 10 ^ len ≤ 10 ^ 12 = pow-le-pow_right {n = 10} (omega arith) few in omega arith
+
+-- and for those behind it
+pub room_decimals : (value len more : ℕ) → len ≤ 12 → value + 1 ≤ (0 + 1) * 10 ^ len → more ≤ 4 → (value + 1) * 10 ^ more ≤ 10 ^ 16
+room_decimals value len more few bound less =
+    let powers : 10 ^ len ≤ 10 ^ 12 = pow-le-pow_right {n = 10} (omega arith) few in
+    let others : 10 ^ more ≤ 10 ^ 4 = pow-le-pow_right {n = 10} (omega arith) less in
+    let first : (value + 1) * 10 ^ more ≤ (value + 1) * 10 ^ 4 = mul-le-mul_left (value + 1) others in
+    omega arith

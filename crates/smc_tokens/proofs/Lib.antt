@@ -1,3 +1,12 @@
+mod AsciiLaws
+mod DateLaws
 mod DigitLaws
 mod Finding
+mod KindLaws
+mod ListLaws
+mod NameLaws
+mod NumberLaws
+mod QuoteLaws
+mod RunLaws
+mod SignLaws
 mod TokenLaws

@@ -11,8 +11,31 @@ use crate::bytes::DASH;
 use crate::digits::{are_digits, digits_onto};
 use crate::found::Found;
 
-/// Bytes of a date.
-pub const DATE: usize = 10;
+// Bytes of a date.
+const DATE: usize = 10;
+
+/// The date that the text begins with.
+pub fn read_date(text: &[u8]) -> Option<Found>
+    ensures { MatchOption result (NoFront is_date text.now) (Finds text.now) }
+{
+    if text.len() < DATE {
+        return None;
+    }
+    let (front, _) = text.split_at(DATE);
+    if !has_date_form(front) {
+        return None;
+    }
+    let year = digits_at(front, 0, 4);
+    let month = digits_at(front, 5, 2);
+    let day = digits_at(front, 8, 2);
+    if !is_civil(year, month, day) {
+        return None;
+    }
+    Some(Found {
+        token: Token::Date { year, month, day },
+        len: DATE,
+    })
+}
 
 fn is_leap_year(year: u32) -> bool
     ensures { result ≡ is_leap_year year }

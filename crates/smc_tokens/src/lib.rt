@@ -12,8 +12,11 @@ mod digits;
 mod found;
 pub mod laws;
 mod limits;
+mod list;
 mod name;
+mod number;
 mod quoted;
+mod read;
 mod reserved;
 mod sign;
 #[cfg(test)]
@@ -21,6 +24,7 @@ mod tests;
 mod token;
 
 pub use limits::{MAX_DECIMALS, MAX_DIGITS, MAX_NAME};
+pub use list::{Tokens, read_tokens};
 pub use name::Name;
 pub use quoted::Quoted;
 pub use reserved::Reserved;
