@@ -2,6 +2,7 @@ mod AsciiLaws
 mod DateLaws
 mod DigitLaws
 mod Finding
+mod FractionLaws
 mod KindLaws
 mod ListLaws
 mod NameLaws
