@@ -31,8 +31,8 @@ form_digits (a ∷ b ∷ c ∷ d ∷ e ∷ f ∷ g ∷ h ∷ i ∷ j ∷ []) for
     record {
       len = refl;
       year = and_from (is_ascii_digit a) (list_all is_ascii_digit (b ∷ c ∷ d ∷ [])) (digit 0 (omega arith))
-        (and_from (is_ascii_digit b) (list_all is_ascii_digit (c ∷ d ∷ [])) (digit 1 (omega arith))
-        (and_from (is_ascii_digit c) (list_all is_ascii_digit (d ∷ [])) (digit 2 (omega arith)) (and_from (is_ascii_digit d) true (digit 3 (omega arith)) refl)));
+          (and_from (is_ascii_digit b) (list_all is_ascii_digit (c ∷ d ∷ [])) (digit 1 (omega arith))
+          (and_from (is_ascii_digit c) (list_all is_ascii_digit (d ∷ [])) (digit 2 (omega arith)) (and_from (is_ascii_digit d) true (digit 3 (omega arith)) refl)));
       month = and_from (is_ascii_digit f) (list_all is_ascii_digit (g ∷ [])) (digit 4 (omega arith)) (and_from (is_ascii_digit g) true (digit 5 (omega arith)) refl);
       day = and_from (is_ascii_digit i) (list_all is_ascii_digit (j ∷ [])) (digit 6 (omega arith)) (and_from (is_ascii_digit j) true (digit 7 (omega arith)) refl);
       first = digit 0 (omega arith);
@@ -66,9 +66,9 @@ too_short text short k within = other_front text k within (λ ten. omega arith)
 -- nor does one of which the first ten are none
 pub no_date : (text front : List ℕ) → front ≡ take 10 text → is_date front ≡ false → NoFront is_date text
 no_date text front front_is none k within = elim (cases_eq k 10) [
-    inl ten ↦ ap (λ n. is_date (take n text)) ten ∙ sym (ap is_date front_is) ∙ none
+  | inl ten ↦ ap (λ n. is_date (take n text)) ten ∙ sym (ap is_date front_is) ∙ none
   | inr other ↦ other_front text k within other
-  ]
+]
 
 -- four digits with a byte behind them that is no digit and no point are the front of no longer number
 five_bytes : (a b c d e : ℕ) (bytes : List ℕ) → is_ascii_digit a ≡ true → is_ascii_digit b ≡ true → is_ascii_digit c ≡ true → is_ascii_digit d ≡ true
@@ -97,12 +97,12 @@ takes_date (b ∷ bs) long form date =
       within = long;
       spelled = digit_token b (take 9 bs) digits.first ∙ cond-true _ _ _ date;
       longest = λ more. elim more as (λ m. 10 < m → m ≤ length (b ∷ bs) → token_of (take m (b ∷ bs)) ≡ None) [
-          zero ↦ λ less within. absurd (omega arith)
+        | zero ↦ λ less within. absurd (omega arith)
         | suc m ↦ λ less within.
             digit_token b (take m bs) digits.first
             ∙ cond-false _ _ _ (other_front (b ∷ bs) (suc m) within (λ ten. omega arith))
             ∙ cond-false _ _ _ (no_number (b ∷ bs) form (suc m) less)
-        ];
+      ];
     }
 
 -- its last byte is a digit

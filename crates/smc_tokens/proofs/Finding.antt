@@ -27,6 +27,6 @@ pub find_passes : {A : Type 0} (p : A → Bool) (xs : List A) (x : A) → find p
 find_passes p [] x found = let h = found in cc
 find_passes p (y ∷ xs) x found =
     elim (p y) as (λ v. p y ≡ v → cond v (Some y) (find p xs) ≡ Some x → p x ≡ true) [
-      true ↦ λ is same. let one : y ≡ x = cc in ap p (sym one) ∙ is
-    | false ↦ λ is same. find_passes p xs x same
+      | true ↦ λ is same. let one : y ≡ x = cc in ap p (sym one) ∙ is
+      | false ↦ λ is same. find_passes p xs x same
     ] refl found

@@ -16,8 +16,8 @@ no_digits most bytes zero none = refl
 no_digits most [] (suc m) none = refl
 no_digits most (c ∷ cs) (suc m) none =
     elim (is_ascii_digit c) as (λ v. is_ascii_digit c ≡ v → are_digits most (c ∷ take m cs) ≡ false) [
-      true ↦ λ is. let some : 1 + prefix_len is_ascii_digit cs ≡ 0 = rw is at none in absurd (omega arith)
-    | false ↦ λ is. and_left _ _ is
+      | true ↦ λ is. let some : 1 + prefix_len is_ascii_digit cs ≡ 0 = rw is at none in absurd (omega arith)
+      | false ↦ λ is. and_left _ _ is
     ] refl
 
 -- no fraction stands first
@@ -26,9 +26,9 @@ no_fraction b bs none = record {
   within = omega arith;
   passes = refl;
   longest = λ more. elim more as (λ m. 0 < m → m ≤ length (b ∷ bs) → is_fraction (take m (b ∷ bs)) ≡ false) [
-      zero ↦ λ less within. absurd (omega arith)
+    | zero ↦ λ less within. absurd (omega arith)
     | suc m ↦ λ less within. none m
-    ];
+  ];
 }
 
 -- a point and as many digits as there may be
@@ -39,9 +39,9 @@ some_fraction b bs d is digits =
       within = omega arith;
       passes = and_from _ _ is digits.passes;
       longest = λ more. elim more as (λ m. suc d < m → m ≤ length (b ∷ bs) → is_fraction (take m (b ∷ bs)) ≡ false) [
-          zero ↦ λ less within. absurd (omega arith)
+        | zero ↦ λ less within. absurd (omega arith)
         | suc m ↦ λ less within. and_right _ _ (digits.longest m (omega arith) (omega arith))
-        ];
+      ];
     }
 
 -- the decimals that a fraction takes are those that stand behind its point
@@ -67,8 +67,8 @@ pub fraction_at : (rest : List ℕ) → IsFraction rest (decimals_in rest)
 fraction_at [] = record { longest = record { within = omega arith; passes = refl; longest = λ more less within. absurd (omega arith) }; decimals_are = refl }
 fraction_at (b ∷ bs) =
     elim (eqb b point) as (λ v. eqb b point ≡ v → IsFraction (b ∷ bs) (cond v (first_digits 4 bs) [])) [
-      true ↦ λ is. behind_point b bs is _ refl
-    | false ↦ λ is. record { longest = no_fraction b bs (λ m. and_left _ _ is); decimals_are = refl }
+      | true ↦ λ is. behind_point b bs is _ refl
+      | false ↦ λ is. record { longest = no_fraction b bs (λ m. and_left _ _ is); decimals_are = refl }
     ] refl
 
 -- a digit is no point
@@ -76,6 +76,6 @@ pub no_decimals : (rest : List ℕ) → is_ascii_digit (get_or rest 0 0) ≡ tru
 no_decimals [] digit = refl
 no_decimals (b ∷ bs) digit =
     elim (eqb b point) as (λ v. eqb b point ≡ v → cond v (first_digits 4 bs) [] ≡ []) [
-      true ↦ λ is. let here : is_ascii_digit 46 ≡ true = subst (λ byte. is_ascii_digit byte ≡ true) (eqb-true b point is) digit in absurd (false≢true here)
-    | false ↦ λ is. refl
+      | true ↦ λ is. let here : is_ascii_digit 46 ≡ true = subst (λ byte. is_ascii_digit byte ≡ true) (eqb-true b point is) digit in absurd (false≢true here)
+      | false ↦ λ is. refl
     ] refl

@@ -22,15 +22,15 @@ falls_behind : (text : List ℕ) (at end : ℕ) (tokens : List PlacedToken) (res
 falls_behind [] at end tokens rest falls = let here : at + 0 ≡ at = omega arith in subst (λ n. FallsInto n [] tokens end rest) here falls
 falls_behind (b ∷ bs) at end tokens rest start =
     elim (eqb b space) as (λ v. eqb b space ≡ v → FallsInto (at + cond v (1 + prefix_len is_space bs) 0) (drop (cond v (1 + prefix_len is_space bs) 0) (b ∷ bs)) tokens end rest → FallsInto at (b ∷ bs) tokens end rest) [
-      true ↦ λ is falls.
-        let same : b ≡ space = eqb-true b space is in
-        let place : at + (1 + prefix_len is_space bs) ≡ at + 1 + prefix_len is_space bs = omega arith in
-        let one : 1 + prefix_len is_space bs ≡ suc (prefix_len is_space bs) = omega arith in
-        let behind : FallsInto (at + (1 + prefix_len is_space bs)) (behind_spaces bs) tokens end rest =
-            subst (λ n. FallsInto (at + (1 + prefix_len is_space bs)) (drop n (b ∷ bs)) tokens end rest) one falls in
-        let moved : FallsInto (at + 1 + prefix_len is_space bs) (behind_spaces bs) tokens end rest = subst (λ n. FallsInto n (behind_spaces bs) tokens end rest) place behind in
-        subst (λ byte. FallsInto at (byte ∷ bs) tokens end rest) (sym same) (spaced (falls_behind bs (at + 1) end tokens rest moved))
-    | false ↦ λ is falls. let here : at + 0 ≡ at = omega arith in subst (λ n. FallsInto n (b ∷ bs) tokens end rest) here falls
+      | true ↦ λ is falls.
+          let same : b ≡ space = eqb-true b space is in
+          let place : at + (1 + prefix_len is_space bs) ≡ at + 1 + prefix_len is_space bs = omega arith in
+          let one : 1 + prefix_len is_space bs ≡ suc (prefix_len is_space bs) = omega arith in
+          let behind : FallsInto (at + (1 + prefix_len is_space bs)) (behind_spaces bs) tokens end rest =
+          subst (λ n. FallsInto (at + (1 + prefix_len is_space bs)) (drop n (b ∷ bs)) tokens end rest) one falls in
+          let moved : FallsInto (at + 1 + prefix_len is_space bs) (behind_spaces bs) tokens end rest = subst (λ n. FallsInto n (behind_spaces bs) tokens end rest) place behind in
+          subst (λ byte. FallsInto at (byte ∷ bs) tokens end rest) (sym same) (spaced (falls_behind bs (at + 1) end tokens rest moved))
+      | false ↦ λ is falls. let here : at + 0 ≡ at = omega arith in subst (λ n. FallsInto n (b ∷ bs) tokens end rest) here falls
     ] refl start
 
 -- what stands behind the spaces begins with none
@@ -39,8 +39,8 @@ no_lead text here =
     let run = prefix_len is_space text in
     let there : get_or text run 0 ≡ space = let e : get_or (behind_spaces text) 0 0 ≡ get_or text (run + 0) 0 = get_or-drop run text 0 0 in let plain : run + 0 ≡ run = omega arith in sym (ap (λ n. get_or text n 0) plain) ∙ sym e ∙ here in
     elim (cases_lt run (length text)) [
-      inl less ↦ false≢true (sym (prefix_len_stops is_space text 0 less) ∙ eq-eqb (get_or text run 0) space there)
-    | inr past ↦ let none : get_or text run 0 ≡ 0 = get_or_past text run 0 past in omega arith
+      | inl less ↦ false≢true (sym (prefix_len_stops is_space text 0 less) ∙ eq-eqb (get_or text run 0) space there)
+      | inr past ↦ let none : get_or text run 0 ≡ 0 = get_or_past text run 0 past in omega arith
     ]
 
 -- a text may be cut behind its spaces
@@ -96,14 +96,14 @@ one_more text tokens rest behind later token count at so_far takes behind_is lat
       utf8 = utf8;
       within = omega arith;
       rest_is = later_is ∙ ap (drop spaces) (behind_is ∙ ap (drop count) so_far.rest_is ∙ drop-drop count (length text - length rest) text)
-        ∙ drop-drop spaces (length text - length rest + count) text ∙ ap (λ n. drop n text) from;
+          ∙ drop-drop spaces (length text - length rest + count) text ∙ ap (λ n. drop n text) from;
       lead = λ here. no_lead behind (ap (λ t. get_or t 0 0) (sym later_is) ∙ here);
       goes_on = λ more end left falls.
-        let there : FallsInto (at + count + spaces) (behind_spaces behind) more end left =
-            subst (λ t. FallsInto (at + count + spaces) t more end left) later_is (subst (λ n. FallsInto n later more end left) place falls) in
-        let next : FallsInto (at + count) (drop count rest) more end left = subst (λ t. FallsInto (at + count) t more end left) behind_is (falls_behind behind (at + count) end more left there) in
-        let here : FallsInto (length text - length rest) rest (record_of token more at) end left = subst (λ n. FallsInto n rest (record_of token more at) end left) at_is (taken takes next) in
-        subst (λ all. FallsInto 0 text all end left) (sym (append_assoc tokens (record_of token [] at) more)) (so_far.goes_on (record_of token more at) end left here);
+          let there : FallsInto (at + count + spaces) (behind_spaces behind) more end left =
+          subst (λ t. FallsInto (at + count + spaces) t more end left) later_is (subst (λ n. FallsInto n later more end left) place falls) in
+          let next : FallsInto (at + count) (drop count rest) more end left = subst (λ t. FallsInto (at + count) t more end left) behind_is (falls_behind behind (at + count) end more left there) in
+          let here : FallsInto (length text - length rest) rest (record_of token more at) end left = subst (λ n. FallsInto n rest (record_of token more at) end left) at_is (taken takes next) in
+          subst (λ all. FallsInto 0 text all end left) (sym (append_assoc tokens (record_of token [] at) more)) (so_far.goes_on (record_of token more at) end left here);
     }
 
 -- what is left behind it is shorter

@@ -19,12 +19,12 @@ letter_most byte letter = let (low, high) = and_parts _ _ letter in leb-true byt
 -- the bytes of a name are of ASCII
 name_ascii : (byte : ℕ) → is_name_byte byte ≡ true → byte < 128
 name_ascii byte is = elim (or_cases (is_ascii_lowercase byte || is_ascii_digit byte) (eqb byte underscore) is) [
-    inl most ↦ elim (or_cases (is_ascii_lowercase byte) (is_ascii_digit byte) most) [
-        inl letter ↦ let below : byte ≤ 122 = letter_most byte letter in omega arith
-      | inr digit ↦ let (low, high) = digit_range byte digit in omega arith
-      ]
-  | inr line ↦ let same : byte ≡ underscore = eqb-true byte underscore line in omega arith
+  | inl most ↦ elim (or_cases (is_ascii_lowercase byte) (is_ascii_digit byte) most) [
+    | inl letter ↦ let below : byte ≤ 122 = letter_most byte letter in omega arith
+    | inr digit ↦ let (low, high) = digit_range byte digit in omega arith
   ]
+  | inr line ↦ let same : byte ≡ underscore = eqb-true byte underscore line in omega arith
+]
 
 -- the token of the name, and its last byte
 pub name_takes : (text : List ℕ) (len : ℕ) → is_ascii_lowercase (get_or text 0 0) ≡ true → len ≡ min (prefix_len is_name_byte text) 32 → TakesToken text len (name_token (take len text))

@@ -89,9 +89,9 @@ module _ (text : List ℕ) where
           within = omega arith;
           passes = number_within 12 (omega arith) ∙ and_from _ _ passes refl;
           longest = λ more less within. elim (cases_lt run more) [
-              inl past ↦ number_past more (omega arith) ∙ and_left _ _ (digits.longest run (omega arith) all)
+            | inl past ↦ number_past more (omega arith) ∙ and_left _ _ (digits.longest run (omega arith) all)
             | inr short ↦ number_within more short ∙ and_left _ _ (digits.longest more (omega arith) within)
-            ];
+          ];
         });
         whole_is = ap (λ n. digits_of (take n text)) count ∙ digits_within 12 (omega arith) ∙ sym (ap (λ n. take n text) most);
         decimals_are = ap (λ n. drop 1 (behind_digits (take n text))) count ∙ ap (drop 1) (behind_within 12 (omega arith)) ∙ sym none;
@@ -161,9 +161,9 @@ number_bytes bytes number =
 
 in_number_ascii : (byte : ℕ) → in_number byte ≡ true → byte < 128
 in_number_ascii byte is = elim (or_cases (is_ascii_digit byte) (eqb byte point) is) [
-    inl digit ↦ let (low, high) = digit_range byte digit in omega arith
+  | inl digit ↦ let (low, high) = digit_range byte digit in omega arith
   | inr dot ↦ let same : byte ≡ point = eqb-true byte point dot in omega arith
-  ]
+]
 
 -- what a reader found is the token
 pub number_found : (text whole behind decimals : List ℕ) (first units count : ℕ) → is_ascii_digit (get_or text 0 0) ≡ true → NoFront is_date text

@@ -29,8 +29,8 @@ closed (b ∷ bs) zero run_is here = eq-eqb b quote here
 closed (b ∷ []) (suc run) run_is here = absurd (omega arith)
 closed (b ∷ c ∷ cs) (suc run) run_is here =
     elim (is_text_byte b) as (λ v. is_text_byte b ≡ v → ends_quoted (take (suc (suc run)) (b ∷ c ∷ cs)) ≡ true) [
-      true ↦ λ is. let more : prefix_len is_text_byte (c ∷ cs) ≡ run = (let step = run_more b (c ∷ cs) is in omega arith) in and_from _ _ is (closed (c ∷ cs) run more here)
-    | false ↦ λ is. let none = run_ended b (c ∷ cs) is in absurd (omega arith)
+      | true ↦ λ is. let more : prefix_len is_text_byte (c ∷ cs) ≡ run = (let step = run_more b (c ∷ cs) is in omega arith) in and_from _ _ is (closed (c ∷ cs) run more here)
+      | false ↦ λ is. let none = run_ended b (c ∷ cs) is in absurd (omega arith)
     ] refl
 
 -- no other front of them does
@@ -39,15 +39,15 @@ not_closed bytes run zero run_is within other = refl
 not_closed [] run (suc k) run_is within other = refl
 not_closed (b ∷ bs) run (suc zero) run_is within other =
     ne_eqb b quote (λ is. let none : run ≡ 0 = sym run_is ∙ run_ended b bs (quote_ends b is) in
-      let here : get_or (b ∷ bs) run 0 ≡ quote = ap (λ n. get_or (b ∷ bs) n 0) none ∙ is in other here (omega arith))
+    let here : get_or (b ∷ bs) run 0 ≡ quote = ap (λ n. get_or (b ∷ bs) n 0) none ∙ is in other here (omega arith))
 not_closed (b ∷ []) run (suc (suc k)) run_is within other = absurd (omega arith)
 not_closed (b ∷ c ∷ cs) run (suc (suc k)) run_is within other =
     elim (is_text_byte b) as (λ v. is_text_byte b ≡ v → ends_quoted (take (suc (suc k)) (b ∷ c ∷ cs)) ≡ false) [
-      true ↦ λ is.
-        let more : run ≡ suc (prefix_len is_text_byte (c ∷ cs)) = sym run_is ∙ run_more b (c ∷ cs) is in
-        and_right _ _ (not_closed (c ∷ cs) (prefix_len is_text_byte (c ∷ cs)) (suc k) refl (omega arith) (λ here same.
+      | true ↦ λ is.
+          let more : run ≡ suc (prefix_len is_text_byte (c ∷ cs)) = sym run_is ∙ run_more b (c ∷ cs) is in
+          and_right _ _ (not_closed (c ∷ cs) (prefix_len is_text_byte (c ∷ cs)) (suc k) refl (omega arith) (λ here same.
           let there : get_or (b ∷ c ∷ cs) run 0 ≡ quote = ap (λ n. get_or (b ∷ c ∷ cs) n 0) more ∙ here in other there (omega arith)))
-    | false ↦ λ is. and_left _ _ is
+      | false ↦ λ is. and_left _ _ is
     ] refl
 
 -- the front that a reader of the inside finds is the longest
@@ -70,9 +70,9 @@ longest_quoted inside count ends = record {
   within = let inner : count ≤ length inside = ends.within in omega arith;
   passes = ends.passes;
   longest = λ more. elim more as (λ m. suc count < m → m ≤ length (quote ∷ inside) → is_quoted (take m (quote ∷ inside)) ≡ false) [
-      zero ↦ λ less within. absurd (omega arith)
+    | zero ↦ λ less within. absurd (omega arith)
     | suc m ↦ λ less within. ends.longest m (omega arith) (omega arith)
-    ];
+  ];
 }
 
 none_quoted : (inside : List ℕ) → NoFront ends_quoted inside → NoFront is_quoted (quote ∷ inside)
@@ -90,7 +90,7 @@ quoted_found (b ∷ bs) inside quoted len first inside_is quoted_is within here 
     let size : length (take (len + 1) bs) ≡ len + 1 = length-take-le (len + 1) bs ends.within in
     let inner : length (b ∷ take (len + 1) bs) - 2 ≡ len = omega arith in
     let token : text_token (take (suc (len + 1)) (b ∷ bs)) ≡ Text quoted =
-        ap (λ n. Text (take n (take (len + 1) bs))) inner ∙ ap Text (take-take len (len + 1) bs (omega arith)) ∙ ap (λ text. Text (take len text)) (sym inside_is) ∙ ap Text (sym quoted_is) in
+    ap (λ n. Text (take n (take (len + 1) bs))) inner ∙ ap Text (take-take len (len + 1) bs (omega arith)) ∙ ap (λ text. Text (take len text)) (sym inside_is) ∙ ap Text (sym quoted_is) in
     let count : suc (len + 1) ≡ len + 2 = omega arith in
     let last : len + 1 ≡ suc len = omega arith in
     let behind : get_or (b ∷ bs) (len + 1) 0 ≡ quote = ap (λ n. get_or (b ∷ bs) n 0) last ∙ ap (λ text. get_or text len 0) (sym inside_is) ∙ here in

@@ -14,8 +14,8 @@ all_front p xs zero short = refl
 all_front p [] (suc k) short = refl
 all_front p (x ∷ xs) (suc k) short =
     elim (p x) as (λ b. p x ≡ b → list_all p (take (suc k) (x ∷ xs)) ≡ true) [
-      true ↦ λ is. let run : suc k ≤ 1 + prefix_len p xs = rw is at short in and_from _ _ is (all_front p xs k (omega arith))
-    | false ↦ λ is. let run : suc k ≤ 0 = rw is at short in absurd (omega arith)
+      | true ↦ λ is. let run : suc k ≤ 1 + prefix_len p xs = rw is at short in and_from _ _ is (all_front p xs k (omega arith))
+      | false ↦ λ is. let run : suc k ≤ 0 = rw is at short in absurd (omega arith)
     ] refl
 
 -- a longer one does not
@@ -24,8 +24,8 @@ not_all_front p xs zero long within = absurd (omega arith)
 not_all_front p [] (suc k) long within = absurd (omega arith)
 not_all_front p (x ∷ xs) (suc k) long within =
     elim (p x) as (λ b. p x ≡ b → list_all p (take (suc k) (x ∷ xs)) ≡ false) [
-      true ↦ λ is. let run : 1 + prefix_len p xs < suc k = rw is at long in and_right _ _ (not_all_front p xs k (omega arith) (omega arith))
-    | false ↦ λ is. and_left _ _ is
+      | true ↦ λ is. let run : 1 + prefix_len p xs < suc k = rw is at long in and_right _ _ (not_all_front p xs k (omega arith) (omega arith))
+      | false ↦ λ is. and_left _ _ is
     ] refl
 
 -- how far a front goes on
@@ -35,8 +35,8 @@ prefix_len-take p [] (suc k) = omega arith
 prefix_len-take p (x ∷ xs) (suc k) =
     let more = prefix_len-take p xs k in
     elim (p x) as (λ b. cond b (1 + prefix_len p (take k xs)) 0 ≡ min (suc k) (cond b (1 + prefix_len p xs) 0)) [
-      true ↦ omega (arith, more)
-    | false ↦ omega arith
+      | true ↦ omega (arith, more)
+      | false ↦ omega arith
     ]
 
 -- ---- a first byte, and bytes behind it that are few enough
@@ -54,9 +54,9 @@ too_long_front : (p : ℕ → Bool) (most : ℕ) (xs : List ℕ) (k : ℕ) → k
 too_long_front p most xs k within long some =
     let len : length (take k xs) ≡ k = length-take-le k xs within in
     elim (cases_lt (prefix_len p xs) k) [
-    inl past ↦ and_left _ _ (not_all_front p xs k past within)
-  | inr short ↦ and_right _ _ (le-ltb (length (take k xs)) most (omega arith))
-  ]
+      | inl past ↦ and_left _ _ (not_all_front p xs k past within)
+      | inr short ↦ and_right _ _ (le-ltb (length (take k xs)) most (omega arith))
+    ]
 
 -- the longest front that begins so and goes on so
 head_longest : (test : List ℕ → Bool) (p : ℕ → Bool) (most b : ℕ) (bs : List ℕ) → test [] ≡ false → ((ys : List ℕ) → test (b ∷ ys) ≡ few_pass p most ys)
@@ -70,9 +70,9 @@ head_longest test p most b bs none behind head some =
       within = omega arith;
       passes = behind (take back bs) ∙ few_pass_front p most bs back (omega arith) (omega arith);
       longest = λ more. elim more as (λ m. suc back < m → m ≤ suc (length bs) → test (take m (b ∷ bs)) ≡ false) [
-          zero ↦ λ less within. none
+        | zero ↦ λ less within. none
         | suc m ↦ λ less within. behind (take m bs) ∙ too_long_front p most bs m (omega arith) (omega arith) some
-        ];
+      ];
     })
 
 -- a lower-case letter is a byte of a name

@@ -60,8 +60,7 @@ small Dot = refl
 sign_ascii : (a : ℕ) (bytes : List ℕ) (sign : Sign) → spelled_sign (a ∷ bytes) ≡ Some sign → (a < 128) × (get_or bytes 0 0 < 128)
 sign_ascii a bytes sign found =
     let (first, second) = and_parts (ltb (get_or (sign_text sign) 0 0) 128) (ltb (get_or (sign_text sign) 1 0) 128) (small sign) in
-    let is = spelled_is (a ∷ bytes) sign found in
-    (
+    let is = spelled_is (a ∷ bytes) sign found in (
       subst (λ text. get_or text 0 0 < 128) is (ltb-true (get_or (sign_text sign) 0 0) 128 first),
       subst (λ text. get_or text 1 0 < 128) is (ltb-true (get_or (sign_text sign) 1 0) 128 second),
     )
@@ -77,21 +76,23 @@ pub pair_found : (text : List ℕ) (sign : Sign) → begins_other (get_or text 0
 pair_found [] sign other found = let h = found in cc
 pair_found (a ∷ []) sign other found = let h = found in cc
 pair_found (a ∷ b ∷ rest) sign other found =
-    let (first, second) = sign_ascii a (b ∷ []) sign found in
-    (record {
-      within = omega arith;
-      spelled = sign_token a (b ∷ []) other ∙ ap signed found;
-      longest = λ more. elim more as (λ m. 2 < m → m ≤ length (a ∷ b ∷ rest) → token_of (take m (a ∷ b ∷ rest)) ≡ None) [
-          zero ↦ λ less within. absurd (omega arith)
-        | suc m ↦ elim m as (λ m. 2 < suc m → suc m ≤ length (a ∷ b ∷ rest) → token_of (take (suc m) (a ∷ b ∷ rest)) ≡ None) [
-            zero ↦ λ less within. absurd (omega arith)
-          | suc m ↦ elim m as (λ m. 2 < suc (suc m) → suc (suc m) ≤ length (a ∷ b ∷ rest) → token_of (take (suc (suc m)) (a ∷ b ∷ rest)) ≡ None) [
-              zero ↦ λ less within. absurd (omega arith)
-            | suc m ↦ λ less within. long_front a b rest m other within
+    let (first, second) = sign_ascii a (b ∷ []) sign found in (
+      record {
+        within = omega arith;
+        spelled = sign_token a (b ∷ []) other ∙ ap signed found;
+        longest = λ more. elim more as (λ m. 2 < m → m ≤ length (a ∷ b ∷ rest) → token_of (take m (a ∷ b ∷ rest)) ≡ None) [
+          | zero ↦ λ less within. absurd (omega arith)
+          | suc m ↦ elim m as (λ m. 2 < suc m → suc m ≤ length (a ∷ b ∷ rest) → token_of (take (suc m) (a ∷ b ∷ rest)) ≡ None) [
+            | zero ↦ λ less within. absurd (omega arith)
+            | suc m ↦ elim m as (λ m. 2 < suc (suc m) → suc (suc m) ≤ length (a ∷ b ∷ rest) → token_of (take (suc (suc m)) (a ∷ b ∷ rest)) ≡ None) [
+              | zero ↦ λ less within. absurd (omega arith)
+              | suc m ↦ λ less within. long_front a b rest m other within
             ]
           ]
         ];
-    }, second)
+      },
+      second,
+    )
 
 -- the fronts behind the first byte where the first two are no sign
 no_pair : (a : ℕ) (rest : List ℕ) (k : ℕ) → begins_other a ≡ false → pair_at (a ∷ rest) ≡ None → suc (suc k) ≤ length (a ∷ rest) → token_of (take (suc (suc k)) (a ∷ rest)) ≡ None
@@ -103,18 +104,20 @@ pub byte_found : (text : List ℕ) (sign : Sign) → 0 < length text → begins_
     → TakesToken text 1 (OfSign sign) × (get_or text 0 0 < 128)
 byte_found [] sign some other none found = absurd (omega arith)
 byte_found (a ∷ rest) sign some other none found =
-    let (first, second) = sign_ascii a [] sign found in
-    (record {
-      within = omega arith;
-      spelled = sign_token a [] other ∙ ap signed found;
-      longest = λ more. elim more as (λ m. 1 < m → m ≤ length (a ∷ rest) → token_of (take m (a ∷ rest)) ≡ None) [
-          zero ↦ λ less within. absurd (omega arith)
-        | suc m ↦ elim m as (λ m. 1 < suc m → suc m ≤ length (a ∷ rest) → token_of (take (suc m) (a ∷ rest)) ≡ None) [
-            zero ↦ λ less within. absurd (omega arith)
-          | suc m ↦ λ less within. no_pair a rest m other none within
+    let (first, second) = sign_ascii a [] sign found in (
+      record {
+        within = omega arith;
+        spelled = sign_token a [] other ∙ ap signed found;
+        longest = λ more. elim more as (λ m. 1 < m → m ≤ length (a ∷ rest) → token_of (take m (a ∷ rest)) ≡ None) [
+          | zero ↦ λ less within. absurd (omega arith)
+          | suc m ↦ elim m as (λ m. 1 < suc m → suc m ≤ length (a ∷ rest) → token_of (take (suc m) (a ∷ rest)) ≡ None) [
+            | zero ↦ λ less within. absurd (omega arith)
+            | suc m ↦ λ less within. no_pair a rest m other none within
           ]
         ];
-    }, first)
+      },
+      first,
+    )
 
 pub sign_none : (text : List ℕ) → begins_other (get_or text 0 0) ≡ false → pair_at text ≡ None → spelled_sign (get_or text 0 0 ∷ []) ≡ None → BeginsNoToken text
 sign_none text other none alone zero within = no-token

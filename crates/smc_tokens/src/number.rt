@@ -46,7 +46,11 @@ fn fraction_len(decimals: &[u8]) -> usize
     requires { length decimals.now ≤ MAX_DECIMALS }
     ensures { result ≡ fraction_len decimals.now }
 {
-    if decimals.is_empty() { 0 } else { 1 + decimals.len() }
+    if decimals.is_empty() {
+        0
+    } else {
+        1 + decimals.len()
+    }
 }
 
 // The digits that the text begins with, at most so many.

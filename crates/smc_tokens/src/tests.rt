@@ -50,6 +50,9 @@ fn a_token_keeps_where_it_begins(rt: HostRuntime) -> Result<(), Fail> {
 
 // The tokens of a text as one line: each with its kind and place, and where they stop: `|` where the text ends, else `!`.
 fn shown(alloc: Global, text: &str) -> Result<String, Fail> {
+    if text.len() > 1024 {
+        return Ok(String::from_str(alloc, "too long")?);
+    }
     let list = read_tokens(alloc, text)?;
     let mut line = String::new(alloc);
     for placed in list.placed() {
@@ -94,7 +97,10 @@ fn names_words_and_signs(rt: HostRuntime) -> Result<(), Fail> {
         ("   ", "|3"),
         ("from a", "word:from@0 name:a@5 |6"),
         ("  a  ", "name:a@2 |5"),
-        ("fromx from_ from1", "name:fromx@0 name:from_@6 name:from1@12 |17"),
+        (
+            "fromx from_ from1",
+            "name:fromx@0 name:from_@6 name:from1@12 |17",
+        ),
         ("a_1", "name:a_1@0 |3"),
         ("1a", "number:1/0@0 name:a@1 |2"),
         ("_a", "!0"),
@@ -130,9 +136,15 @@ fn dates_are_tried_before_numbers(rt: HostRuntime) -> Result<(), Fail> {
     let alloc = rt.alloc();
     let cases = [
         ("1998-12-01", "date:1998/12/1@0 |10"),
-        ("1998-12-01-90", "date:1998/12/1@0 sign:-@10 number:90/0@11 |13"),
+        (
+            "1998-12-01-90",
+            "date:1998/12/1@0 sign:-@10 number:90/0@11 |13",
+        ),
         ("1998-12-011", "date:1998/12/1@0 number:1/0@10 |11"),
-        ("1998-12-01.5", "date:1998/12/1@0 sign:.@10 number:5/0@11 |12"),
+        (
+            "1998-12-01.5",
+            "date:1998/12/1@0 sign:.@10 number:5/0@11 |12",
+        ),
         (
             "1995-13-01",
             "number:1995/0@0 sign:-@4 number:13/0@5 sign:-@7 number:1/0@8 |10",
@@ -183,7 +195,10 @@ fn the_longest_number_is_taken(rt: HostRuntime) -> Result<(), Fail> {
         ("999999999999.9999", "number:9999999999999999/4@0 |17"),
         ("123456789012", "number:123456789012/0@0 |12"),
         ("1234567890123", "number:123456789012/0@0 number:3/0@12 |13"),
-        ("1234567890123.5", "number:123456789012/0@0 number:35/1@12 |15"),
+        (
+            "1234567890123.5",
+            "number:123456789012/0@0 number:35/1@12 |15",
+        ),
         ("-1", "sign:-@0 number:1/0@1 |2"),
     ];
     for (text, line) in cases {
@@ -222,17 +237,16 @@ fn a_text_is_whole_between_its_quotes(rt: HostRuntime) -> Result<(), Fail> {
 #[test]
 fn every_reserved_word_is_no_name(rt: HostRuntime) -> Result<(), Fail> {
     let alloc = rt.alloc();
-    let words = "from where by show sort first as and or not between desc sum avg min max count fold";
+    let words =
+        "from where by show sort first as and or not between desc sum avg min max count fold";
     let list = read_tokens(alloc, words)?;
     assert!(rt; list.is_whole());
     assert_eq!(rt; list.placed().len(), 18);
-    let mut code = 0;
-    for placed in list.placed() {
+    for (place, placed) in list.placed().iter().enumerate() {
         match &placed.token {
-            Token::Word(word) => assert_eq!(rt; word.code(), code),
+            Token::Word(word) => assert_eq!(rt; usize::from(word.code()), place),
             _ => assert!(rt; false),
         }
-        code += 1;
     }
     Ok(())
 }

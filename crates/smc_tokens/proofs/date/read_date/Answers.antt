@@ -21,12 +21,12 @@ pub returns-then-not-is_civil : goal.returns-then-not-is_civil
 returns-then-not-is_civil c =
     let front = c.split_at.result.0.now in
     let same : is_civil c.digits_at-year.result c.digits_at-month.result c.digits_at-day.result ≡ is_civil (year_of front) (month_of front) (day_of front) =
-        cc (c.digits_at-year.ensures.value, c.digits_at-month.ensures.value, c.digits_at-day.ensures.value) in
+    cc (c.digits_at-year.ensures.value, c.digits_at-month.ensures.value, c.digits_at-day.ensures.value) in
     no_date c.args.text.now front c.split_at.ensures.front (no_civil front (sym same ∙ sym c.is_civil.ensures ∙ c.if-not-is_civil.true))
 
 pub returns : goal.returns
 returns c =
     let (takes, ascii) = date_found c.args.text.now c.split_at.result.0.now _ _ _ c.split_at.ensures.front c.if-text-lt-DATE.false
-        (sym c.has_date_form.ensures ∙ c.if-not-has_date_form.false)
-        c.digits_at-year.ensures.value c.digits_at-month.ensures.value c.digits_at-day.ensures.value (sym c.is_civil.ensures ∙ c.if-not-is_civil.false) in
+    (sym c.has_date_form.ensures ∙ c.if-not-has_date_form.false)
+    c.digits_at-year.ensures.value c.digits_at-month.ensures.value c.digits_at-day.ensures.value (sym c.is_civil.ensures ∙ c.if-not-is_civil.false) in
     record { takes = takes; ascii = ascii }

@@ -36,7 +36,7 @@ loop-rest-preserved c =
     let later = c.skip_spaces-rest-in-loop-rest.result.now in
     let finds : Finds rest c.in-Some.found = subst (BeginsWith rest) c.in-Some.is c.in_ok-found.ensures in
     let more = one_more c.args.text.now c.loop-rest.placed.items rest c.split_at.result.1.now later c.in-Some.found.token c.in-Some.found.len _
-        c.loop-rest.invariant finds.takes c.split_at.ensures.back c.skip_spaces-rest-in-loop-rest.ensures c.skip_spaces-rest-in-loop-rest.utf8 refl in
+    c.loop-rest.invariant finds.takes c.split_at.ensures.back c.skip_spaces-rest-in-loop-rest.ensures c.skip_spaces-rest-in-loop-rest.utf8 refl in
     subst (λ items. SoFar c.args.text.now items later) (sym c.in_ok-push.ensures.items) more
 
 pub returns : goal.returns

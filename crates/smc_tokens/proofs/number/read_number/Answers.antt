@@ -12,6 +12,6 @@ digits_onto-requires-2-clause-room c = room_decimals _ _ _ c.first_digits-whole.
 pub returns : goal.returns
 returns c =
     let (takes, ascii) = number_found _ _ _ _ _ _ _ c.requires.digit c.requires.no_date c.first_digits-whole.ensures.value c.split_at.ensures.back
-        c.decimals_in-decimals.ensures.value c.digits_onto.ensures.value c.digits_onto-2.ensures.value
-        (ap (λ n. length c.first_digits-whole.result.now + n) c.fraction_len.ensures) in
+    c.decimals_in-decimals.ensures.value c.digits_onto.ensures.value c.digits_onto-2.ensures.value
+    (ap (λ n. length c.first_digits-whole.result.now + n) c.fraction_len.ensures) in
     record { takes = takes; ascii = ascii }

@@ -10,7 +10,7 @@ returns-then-inside-len-eq-QUOTE-clause-longest c = longest_inside c.args.inside
 
 pub returns-else-len-inside-clause-none : goal.returns-else-len-inside-clause-none
 returns-else-len-inside-clause-none c = none_inside c.args.inside.now c.text_run-len.result c.text_run-len.ensures (λ here. elim c.else-len-inside.branch [
-    else-len-inside-via-then-len-inside+else-inside-len-eq-QUOTE w ↦ w.if-inside-len-eq-QUOTE.false here
+  | else-len-inside-via-then-len-inside+else-inside-len-eq-QUOTE w ↦ w.if-inside-len-eq-QUOTE.false here
   | else-len-inside-via-else-len-inside w ↦
       let none : get_or c.args.inside.now c.text_run-len.result 0 ≡ 0 = get_or_past c.args.inside.now c.text_run-len.result 0 (omega arith) in omega arith
-  ])
+])

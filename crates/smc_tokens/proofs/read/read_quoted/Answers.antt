@@ -15,9 +15,9 @@ returns c =
     let bytes = c.as_bytes.ensures.value in
     let len = c.in-Some.len in
     let (takes, ascii) = quoted_found c.args.text.now c.split_at.result.1.now _ len c.requires c.split_at.ensures.back
-        (c.of.ensures ∙ c.in_ok-from_str.ensures.ok ∙ c.split_at-2.ensures.front)
-        (subst (λ text. len < length text) bytes c.in-Some.ensures.within)
-        (subst (λ text. get_or text len 0 ≡ quote) bytes c.in-Some.ensures.ended)
-        (subst (λ text. IsLongest ends_quoted text (len + 1)) bytes c.in-Some.ensures.longest) in
+    (c.of.ensures ∙ c.in_ok-from_str.ensures.ok ∙ c.split_at-2.ensures.front)
+    (subst (λ text. len < length text) bytes c.in-Some.ensures.within)
+    (subst (λ text. get_or text len 0 ≡ quote) bytes c.in-Some.ensures.ended)
+    (subst (λ text. IsLongest ends_quoted text (len + 1)) bytes c.in-Some.ensures.longest) in
     let last : len + 2 - 1 ≡ len + 1 = omega arith in
     record { takes = takes; ascii = subst (λ n. get_or c.args.text.now n 0 < 128) (sym last) ascii }
