@@ -1,0 +1,3 @@
+mod AheadLaws
+mod LeadLaws
+mod PartLaws
