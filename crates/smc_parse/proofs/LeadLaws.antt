@@ -1,11 +1,11 @@
 -- Plans along the tokens: one lead after another, and a mark that may come.
-use Rattle.std.proofs.Common.{◌≡◌, ℕ, ◌+◌, ◌<◌, ◌≤◌, true, false, if◌then◌else◌, List, [], ◌∷◌, length, Option, None, refl, ap, arith, ◌∙◌, sym, subst}
+use Rattle.std.proofs.Common.{◌≡◌, ℕ, zero, suc, ◌+◌, ◌-◌, ◌<◌, ◌≤◌, Bool, true, false, if◌then◌else◌, List, [], ◌∷◌, length, Option, None, Result, Ok, Err, refl, ap, arith, ◌∙◌, sym, subst}
 use Rattle.smc_tokens.specs.declared.token.Token.{Token}
 use Rattle.smc_tokens.specs.declared.token.Placed.{Placed}
-use Rattle.smc_query.specs.Machine.{Plan, must, Step, goes, wrong, Outcome, stuck, step, ended, outcome, onward, is_mark, sees}
+use Rattle.smc_query.specs.Machine.{Plan, must, Step, goes, wrong, deep, opened, Outcome, stuck, too_deep, step, ended, outcome, onward, is_mark, sees}
 use Rattle.smc_parse.specs.declared.fault.Fault.{Fault}
 use Rattle.smc_parse.specs.declared.fault.Fault.TheVariants.{Wrong, TooDeep, NoMemory}
-use Rattle.smc_parse.specs.Reading.{ahead, Stands, StopsBy, Leads, Stops}
+use Rattle.smc_parse.specs.Reading.{ahead, Stands, StopsBy, Leads, Stops, Reads, given}
 use Rattle.smc_parse.proofs.AheadLaws.{Marked, marked-at}
 
 -- one lead after another
@@ -110,3 +110,76 @@ then-leads f plan part after placed x y z h g = leads-on plan (λ k. part (f k))
 -- a part whose plan stops, where a plan goes on with it
 pub then-stops : {K L : Type 0} (f : K → L) (plan : K → Plan) (part : L → Plan) (placed : List Placed) (x y : ℕ) (fault : Fault) → Leads plan (λ k. part (f k)) placed x y → Stops part placed y fault → Stops plan placed x fault
 then-stops f plan part placed x y fault h g = stops-on plan (λ k. part (f k)) placed x y fault h (λ k. g (f k))
+
+-- where a mark is seen, its token takes the plan on
+pub leads-seen : {K : Type 0} (plan next : K → Plan) (placed : List Placed) (at : ℕ) (mark : Token) → sees mark (ahead placed at) ≡ true
+    → ((k : K) (t : Token) (s : List Token) → ahead placed at ≡ t ∷ s → is_mark mark t ≡ true → step (plan k) t ≡ goes (next k)) → Leads plan next placed at (at + 1)
+leads-seen plan next placed at mark e f =
+    let m : Marked placed at mark = marked-at placed at mark e in
+    leads-step plan next placed at m.token m.stands (λ k. f k m.token (ahead placed (at + 1)) m.stands.is m.marks)
+
+-- a mark that opens one more
+pub record Opens {K : Type 0} (plan : K → Plan) (mark : Token) (depth : ℕ) (inner : K → ℕ → Plan) : Type 0 where
+  pub steps : (k : K) (t : Token) → is_mark mark t ≡ true → step (plan k) t ≡ opened depth (inner k)
+
+opened-less : (depth : ℕ) (inner : ℕ → Plan) → 0 < depth → opened depth inner ≡ goes (inner (depth - 1))
+opened-less zero inner h = absurd (omega arith)
+opened-less (suc d) inner h = let e : suc d - 1 ≡ d = omega arith in rw e refl
+
+-- where one more may be open
+pub opens-leads : {K : Type 0} {plan : K → Plan} {mark : Token} {depth : ℕ} {inner : K → ℕ → Plan} (placed : List Placed) (at : ℕ) → Opens plan mark depth inner → 0 < depth
+    → sees mark (ahead placed at) ≡ true → Leads plan (λ k. inner k (depth - 1)) placed at (at + 1)
+opens-leads {K} {plan} {mark} {depth} {inner} placed at o h e = leads-seen plan (λ k. inner k (depth - 1)) placed at mark e (λ k t s is m. o.steps k t m ∙ opened-less depth (inner k) h)
+
+too-deep : (plan : Plan) (t : Token) (s : List Token) (inner : ℕ → Plan) (depth : ℕ) → depth ≡ 0 → step plan t ≡ opened depth inner → outcome plan (t ∷ s) ≡ too_deep (t ∷ s)
+unfolding outcome
+too-deep plan t s inner depth z e = rw (e, z) refl
+
+too-deep-at : (plan : Plan) (t : Token) (s later : List Token) → s ≡ t ∷ later → outcome plan (t ∷ later) ≡ too_deep (t ∷ later) → outcome plan s ≡ too_deep s
+too-deep-at plan t s later e h = rw e h
+
+-- where none may be open
+pub opens-stops : {K : Type 0} {plan : K → Plan} {mark : Token} {depth : ℕ} {inner : K → ℕ → Plan} (placed : List Placed) (at : ℕ) → at ≤ length placed → Opens plan mark depth inner → depth ≡ 0
+    → sees mark (ahead placed at) ≡ true → Stops plan placed at (TooDeep at)
+opens-stops {K} {plan} {mark} {depth} {inner} placed at w o z e k =
+    let m : Marked placed at mark = marked-at placed at mark e in
+    (w, too-deep-at (plan k) m.token (ahead placed at) (ahead placed (at + 1)) m.stands.is (too-deep (plan k) m.token (ahead placed (at + 1)) (inner k) depth z (o.steps k m.token m.marks)))
+
+-- a mark that is not the first token
+pub first-is : (mark t : Token) (s later : List Token) (b : Bool) → s ≡ t ∷ later → sees mark s ≡ b → is_mark mark t ≡ b
+first-is mark t s later b e h = sym (ap (sees mark) e) ∙ h
+
+stuck-first : (plan : Plan) (t : Token) (s : List Token) → step plan t ≡ wrong → outcome plan (t ∷ s) ≡ stuck (t ∷ s)
+unfolding outcome
+stuck-first plan t s e = rw e refl
+
+stuck-end : (plan : Plan) → ended plan ≡ None → outcome plan [] ≡ stuck []
+unfolding outcome
+stuck-end plan e = rw e refl
+
+stuck-along : (plan : Plan) (s r : List Token) → s ≡ r → outcome plan r ≡ stuck r → outcome plan s ≡ stuck s
+stuck-along plan s r e h = rw e h
+
+-- the token of the place is wrong
+pub stops-step : {K : Type 0} (plan : K → Plan) (placed : List Placed) (at : ℕ) (t : Token) → at ≤ length placed → Stands placed at t → ((k : K) → step (plan k) t ≡ wrong) → Stops plan placed at (Wrong at)
+stops-step plan placed at t w h e k = (w, stuck-along (plan k) (ahead placed at) (t ∷ ahead placed (at + 1)) h.is (stuck-first (plan k) t (ahead placed (at + 1)) (e k)))
+
+-- the end is wrong
+pub stops-end : {K : Type 0} (plan : K → Plan) (placed : List Placed) (at : ℕ) → at ≤ length placed → ahead placed at ≡ [] → ((k : K) → ended (plan k) ≡ None) → Stops plan placed at (Wrong at)
+stops-end plan placed at w h e k = (w, stuck-along (plan k) (ahead placed at) [] h (stuck-end (plan k) (e k)))
+
+-- on past a mark, behind what was read so far
+pub on-mark : {K : Type 0} {plan sofar next other : K → Plan} {mark : Token} (placed : List Placed) (from at : ℕ) → Leads plan sofar placed from at → Chooses sofar mark next other
+    → sees mark (ahead placed at) ≡ true → Leads plan next placed from (at + 1)
+on-mark {K} {plan} {sofar} {next} {other} {mark} placed from at h c e = leads-on plan sofar next placed from at (at + 1) h (leads-mark placed at c e)
+
+-- on where there is no such mark, behind what was read so far
+pub past-mark : {K : Type 0} {plan sofar next other : K → Plan} {mark : Token} (placed : List Placed) (from at : ℕ) → Leads plan sofar placed from at → Chooses sofar mark next other
+    → sees mark (ahead placed at) ≡ false → Leads plan other placed from at
+past-mark {K} {plan} {sofar} {next} {other} {mark} placed from at h c e = leads-on plan sofar other placed from at at h (leads-none placed at h.within c e)
+
+-- what is read behind a lead is read before it
+pub reads-on : {X T : Type 0} (plan part : (T → Plan) → Plan) (tree_of : X → T) (placed : List Placed) (x y : ℕ) (result : Result (X × ℕ) Fault) → Leads plan part placed x y
+    → Reads part tree_of placed y result → Reads plan tree_of placed x result
+reads-on plan part tree_of placed x y (Ok found) h g = leads-on plan part (given (tree_of found.0)) placed x y found.1 h g
+reads-on plan part tree_of placed x y (Err fault) h g = stops-on plan part placed x y fault h g

@@ -1,3 +1,5 @@
 mod AheadLaws
 mod LeadLaws
 mod PartLaws
+mod ExprLaws
+mod CondLaws

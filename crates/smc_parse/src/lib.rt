@@ -1,7 +1,9 @@
 //! Reading
 #![tactic(auto)]
 
+mod cond;
 mod cursor;
+mod expr;
 mod fault;
 mod nodes;
 mod path;
