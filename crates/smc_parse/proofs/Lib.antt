@@ -3,3 +3,4 @@ mod LeadLaws
 mod PartLaws
 mod ExprLaws
 mod CondLaws
+mod CallLaws

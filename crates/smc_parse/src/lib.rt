@@ -1,6 +1,7 @@
 //! Reading
 #![tactic(auto)]
 
+mod call;
 mod cond;
 mod cursor;
 mod expr;
