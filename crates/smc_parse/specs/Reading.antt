@@ -1,8 +1,8 @@
 -- What reading makes of the tokens from a place on: what their plan makes of them, whatever comes behind.
-use Rattle.std.specs.Prelude.{◌≡◌, ℕ, ◌+◌, ◌<◌, ◌≤◌, Bool, true, false, List, ◌∷◌, length, drop, map, Result}
+use Rattle.std.specs.Prelude.{◌≡◌, ℕ, zero, ◌+◌, ◌<◌, ◌≤◌, Bool, true, false, List, ◌∷◌, length, drop, map, Result}
 use Rattle.std.specs.Result.{MatchResult}
 use Rattle.smc_tokens.specs.declared.token.Token.{Token}
-use Rattle.smc_tokens.specs.declared.token.Token.TheVariants.{Name}
+use Rattle.smc_tokens.specs.declared.token.Token.TheVariants.{Name, Number}
 use Rattle.smc_tokens.specs.declared.token.Placed.{Placed}
 use Rattle.smc_query.specs.Machine.{Plan, Outcome, stuck, too_deep, outcome}
 use Rattle.smc_parse.specs.declared.fault.Fault.{Fault}
@@ -25,6 +25,11 @@ pub record Stands (placed : List Placed) (at : ℕ) (token : Token) : Type 0 whe
 abbrev pub names_none : List Token → Bool
 names_none (Name n ∷ s) = false
 names_none _ = true
+
+-- no number without decimals stands first
+abbrev pub wholes_none : List Token → Bool
+wholes_none (Number n zero ∷ later) = false
+wholes_none _ = true
 
 -- where a plan stops by a fault; want of memory says nothing of the text
 abbrev pub StopsBy : List Placed → Fault → Outcome → Type 0

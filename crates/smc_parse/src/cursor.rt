@@ -1,7 +1,7 @@
 ghost use Rattle.std.specs.Prelude.{◌≡◌, ◌+◌, ◌<◌, ◌≤◌, length, [], MatchOption, MatchResult, true};
-ghost use Rattle.smc_tokens.specs.declared.token.Token.TheVariants.{Name as OfName, Sign as OfSign, Word as OfWord};
-ghost use Rattle.smc_query.specs.Machine.{sees, must, name};
-ghost use Rattle.smc_parse.specs.Reading.{ahead, names_none, Stands, Passes, Reads};
+ghost use Rattle.smc_tokens.specs.declared.token.Token.TheVariants.{Name as OfName, Number as OfNumber, Sign as OfSign, Word as OfWord};
+ghost use Rattle.smc_query.specs.Machine.{sees, must, name, whole};
+ghost use Rattle.smc_parse.specs.Reading.{ahead, names_none, wholes_none, Stands, Passes, Reads};
 
 use crate::Fault;
 use smc_tokens::{Name, Placed, Reserved, Sign, Token};
@@ -80,6 +80,31 @@ pub fn must_name(tokens: &[Placed], at: usize, alloc: Global) -> Result<(Name, u
 {
     match name_at(tokens, at) {
         Some(text) => Ok((text.copied(alloc)?, at + 1)),
+        None => Err(Fault::Wrong { index: at }),
+    }
+}
+
+// The number without decimals at a place, if one stands there.
+fn whole_at(tokens: &[Placed], at: usize) -> Option<u64>
+    ensures { MatchOption result (wholes_none (ahead tokens.now at) ≡ true)
+        (λ count. Stands tokens.now at (OfNumber count 0)) }
+{
+    let Some(token) = token_at(tokens, at) else {
+        return None;
+    };
+    match token {
+        Token::Number { units, decimals: 0 } => Some(*units),
+        _ => None,
+    }
+}
+
+/// A number without decimals that must stand at a place, and the place behind it.
+pub fn must_whole(tokens: &[Placed], at: usize) -> Result<(u64, usize), Fault>
+    requires { at ≤ length tokens.now }
+    ensures { Reads whole (λ count. count) tokens.now at result }
+{
+    match whole_at(tokens, at) {
+        Some(count) => Ok((count, at + 1)),
         None => Err(Fault::Wrong { index: at }),
     }
 }

@@ -6,7 +6,10 @@ mod cond;
 mod cursor;
 mod expr;
 mod fault;
+mod item;
+mod key;
 mod nodes;
+mod parts;
 mod path;
 
 pub use fault::Fault;
