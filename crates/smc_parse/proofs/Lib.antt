@@ -4,3 +4,4 @@ mod PartLaws
 mod ExprLaws
 mod CondLaws
 mod CallLaws
+mod TextLaws

@@ -2,3 +2,4 @@ pub mod Reading
 pub mod Chains
 pub mod Calls
 pub mod Parts
+pub mod Texts
