@@ -122,7 +122,12 @@ fn read_aggregate(
 }
 
 /// The call of an output column, in whose parentheses at most so many may be open at one place.
-pub fn read_call(tokens: &[Placed], at: usize, depth: u32, alloc: Global) -> Result<(ItemCall, usize), Fault>
+pub fn read_call(
+    tokens: &[Placed],
+    at: usize,
+    depth: u32,
+    alloc: Global,
+) -> Result<(ItemCall, usize), Fault>
     requires { at ≤ length tokens.now }
     ensures { Reads (call depth) call_tree tokens.now at result }
 {

@@ -157,7 +157,12 @@ fn read_neg(tokens: &[Placed], at: usize, depth: u32, alloc: Global) -> Result<(
 
 // Parts with `and` between them.
 #[cycle(condition)]
-fn read_conj(tokens: &[Placed], at: usize, depth: u32, alloc: Global) -> Result<(Cond, usize), Fault>
+fn read_conj(
+    tokens: &[Placed],
+    at: usize,
+    depth: u32,
+    alloc: Global,
+) -> Result<(Cond, usize), Fault>
     requires { at ≤ length tokens.now }
     ensures { Reads (conj depth) cond_tree tokens.now at result }
 {
@@ -172,7 +177,12 @@ fn read_conj(tokens: &[Placed], at: usize, depth: u32, alloc: Global) -> Result<
 
 /// Conjunctions with `or` between them, in which at most so many may be open at one place.
 #[cycle(condition)]
-pub fn read_cond(tokens: &[Placed], at: usize, depth: u32, alloc: Global) -> Result<(Cond, usize), Fault>
+pub fn read_cond(
+    tokens: &[Placed],
+    at: usize,
+    depth: u32,
+    alloc: Global,
+) -> Result<(Cond, usize), Fault>
     requires { at ≤ length tokens.now }
     ensures { Reads (cond depth) cond_tree tokens.now at result }
 {

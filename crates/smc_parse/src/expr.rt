@@ -84,7 +84,12 @@ fn read_leaf(tokens: &[Placed], at: usize, alloc: Global) -> Result<(Expr, usize
 
 // One part of a term.
 #[cycle(expression)]
-fn read_factor(tokens: &[Placed], at: usize, depth: u32, alloc: Global) -> Result<(Expr, usize), Fault>
+fn read_factor(
+    tokens: &[Placed],
+    at: usize,
+    depth: u32,
+    alloc: Global,
+) -> Result<(Expr, usize), Fault>
     requires { at ≤ length tokens.now }
     ensures { Reads (factor depth) expr_tree tokens.now at result }
 {
@@ -123,7 +128,12 @@ fn read_parentheses(
 
 // Factors with stars between them.
 #[cycle(expression)]
-fn read_term(tokens: &[Placed], at: usize, depth: u32, alloc: Global) -> Result<(Expr, usize), Fault>
+fn read_term(
+    tokens: &[Placed],
+    at: usize,
+    depth: u32,
+    alloc: Global,
+) -> Result<(Expr, usize), Fault>
     requires { at ≤ length tokens.now }
     ensures { Reads (term depth) expr_tree tokens.now at result }
 {
@@ -138,7 +148,12 @@ fn read_term(tokens: &[Placed], at: usize, depth: u32, alloc: Global) -> Result<
 
 /// Terms with plus and minus between them, in which at most so many may be open at one place.
 #[cycle(expression)]
-pub fn read_expr(tokens: &[Placed], at: usize, depth: u32, alloc: Global) -> Result<(Expr, usize), Fault>
+pub fn read_expr(
+    tokens: &[Placed],
+    at: usize,
+    depth: u32,
+    alloc: Global,
+) -> Result<(Expr, usize), Fault>
     requires { at ≤ length tokens.now }
     ensures { Reads (expr depth) expr_tree tokens.now at result }
 {

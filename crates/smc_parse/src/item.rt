@@ -24,7 +24,12 @@ fn read_label(tokens: &[Placed], at: usize, alloc: Global) -> Result<(Option<Nam
 }
 
 // An output column.
-fn read_item(tokens: &[Placed], at: usize, depth: u32, alloc: Global) -> Result<(Item, usize), Fault>
+fn read_item(
+    tokens: &[Placed],
+    at: usize,
+    depth: u32,
+    alloc: Global,
+) -> Result<(Item, usize), Fault>
     requires { at ≤ length tokens.now }
     ensures { Reads (item depth) item_tree tokens.now at result }
 {
@@ -34,7 +39,12 @@ fn read_item(tokens: &[Placed], at: usize, depth: u32, alloc: Global) -> Result<
 }
 
 /// Output columns with commas between them.
-pub fn read_items(tokens: &[Placed], at: usize, depth: u32, alloc: Global) -> Result<(Items, usize), Fault>
+pub fn read_items(
+    tokens: &[Placed],
+    at: usize,
+    depth: u32,
+    alloc: Global,
+) -> Result<(Items, usize), Fault>
     requires { at ≤ length tokens.now }
     ensures { Reads (item_list depth) (λ items. map item_tree items) tokens.now at result }
 {

@@ -23,7 +23,12 @@ pub fn read_path(tokens: &[Placed], at: usize, alloc: Global) -> Result<(Path, u
         names.push(name)?;
         end = next;
     }
-    Ok((Path { names: Names::of(names) }, end))
+    Ok((
+        Path {
+            names: Names::of(names),
+        },
+        end,
+    ))
 }
 
 /// Paths with commas between them.

@@ -27,7 +27,12 @@ pub struct Tail {
 }
 
 /// A query up to `show`, in whose condition at most so many may be open at one place.
-pub fn read_head(tokens: &[Placed], at: usize, depth: u32, alloc: Global) -> Result<(Head, usize), Fault>
+pub fn read_head(
+    tokens: &[Placed],
+    at: usize,
+    depth: u32,
+    alloc: Global,
+) -> Result<(Head, usize), Fault>
     requires { at ≤ length tokens.now }
     ensures { Reads (head_plan depth) head_tree tokens.now at result }
 {
@@ -40,7 +45,12 @@ pub fn read_head(tokens: &[Placed], at: usize, depth: u32, alloc: Global) -> Res
 }
 
 /// A query behind `show`, in whose calls at most so many may be open at one place.
-pub fn read_tail(tokens: &[Placed], at: usize, depth: u32, alloc: Global) -> Result<(Tail, usize), Fault>
+pub fn read_tail(
+    tokens: &[Placed],
+    at: usize,
+    depth: u32,
+    alloc: Global,
+) -> Result<(Tail, usize), Fault>
     requires { at ≤ length tokens.now }
     ensures { Reads (tail_plan depth) tail_tree tokens.now at result }
 {

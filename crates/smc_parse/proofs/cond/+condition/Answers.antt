@@ -131,4 +131,3 @@ read_cond-loop-alloc-preserved t c =
 pub read_cond-returns : goal.read_cond-returns
 read_cond-returns t c =
     past-mark c.args.tokens.now c.args.at c.loop-alloc.end c.loop-alloc.invariant (conjs-choose c.args.depth (cond_tree c.loop-alloc.left)) (sym c.loop-alloc-test.ensures)
-
