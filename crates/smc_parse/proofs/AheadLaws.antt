@@ -1,11 +1,11 @@
 -- The tokens from a place on, and the one that stands there.
-use Rattle.std.proofs.Common.{◌≡◌, ℕ, ◌+◌, ◌<◌, ◌≤◌, ◌⊎◌, inl, inr, true, false, List, [], ◌∷◌, length, get_or, drop, map, refl, ap, arith, ◌∙◌, sym}
+use Rattle.std.proofs.Common.{◌≡◌, ℕ, ◌+◌, ◌<◌, ◌≤◌, ◌⊎◌, inl, inr, true, false, List, [], ◌∷◌, length, get_or, refl, ap, arith, ◌∙◌, sym}
 use Rattle.std.proofs.lemmas.List.{drop-map, drop_more, drop_all}
 use Rattle.std.proofs.lemmas.Bool.Decides.{leb_tells}
 use Rattle.smc_tokens.specs.declared.token.Token.{Token}
 use Rattle.smc_tokens.specs.declared.token.Placed.{Placed}
 use Rattle.smc_query.specs.Machine.{is_mark, sees}
-use Rattle.smc_parse.specs.Reading.{tokens_of, ahead, Stands}
+use Rattle.smc_parse.specs.Reading.{ahead, Stands}
 
 ahead-more : (placed : List Placed) (at : ℕ) (d : Placed) → at < length placed → ahead placed at ≡ (get_or placed at d).token ∷ ahead placed (at + 1)
 unfolding ahead

@@ -1,5 +1,5 @@
 -- What a token makes of the plan of a call.
-use Rattle.std.proofs.Common.{◌≡◌, ℕ, ◌+◌, ◌≤◌, true, false, List, [], ◌∷◌, length, None, refl}
+use Rattle.std.proofs.Common.{◌≡◌, ℕ, ◌+◌, ◌≤◌, true, false, List, [], ◌∷◌, length, refl}
 use Rattle.smc_tokens.specs.declared.token.Token.{Token}
 use Rattle.smc_tokens.specs.declared.token.Token.TheVariants.{Word as OfWord, Sign as OfSign}
 use Rattle.smc_tokens.specs.declared.reserved.Reserved.{Reserved}

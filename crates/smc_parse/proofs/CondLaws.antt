@@ -1,7 +1,7 @@
 -- What a token makes of the plan of a condition.
-use Rattle.std.proofs.Common.{◌≡◌, ℕ, ◌+◌, ◌≤◌, Bool, true, false, List, [], ◌∷◌, length, None, refl, ap, arith, ◌∙◌, sym}
+use Rattle.std.proofs.Common.{◌≡◌, ℕ, ◌+◌, ◌≤◌, true, false, List, [], ◌∷◌, length, refl, arith}
 use Rattle.smc_tokens.specs.declared.token.Token.{Token}
-use Rattle.smc_tokens.specs.declared.token.Token.TheVariants.{Name, Word as OfWord, Date, Number, Text, Sign as OfSign}
+use Rattle.smc_tokens.specs.declared.token.Token.TheVariants.{Word as OfWord, Sign as OfSign}
 use Rattle.smc_tokens.specs.declared.reserved.Reserved.{Reserved}
 use Rattle.smc_tokens.specs.declared.reserved.Reserved.TheVariants as words
 use Rattle.smc_tokens.specs.declared.sign.Sign.{Sign}
@@ -11,11 +11,11 @@ use Rattle.smc_query.specs.declared.cond.Op.{Op}
 use Rattle.smc_query.specs.declared.cond.Op.TheVariants as ops
 use Rattle.smc_query.specs.Trees.{ExprTree, CondTree, either, both, negation, comparison, within}
 use Rattle.smc_query.specs.Grammar.{op_sign}
-use Rattle.smc_query.specs.Machine.{Plan, must, expr, compared, neg, negs, conj, conjs, cond, Step, goes, wrong, opened, stuck, outcome, step, ended, is_mark, sees}
+use Rattle.smc_query.specs.Machine.{Plan, must, expr, compared, neg, negs, conj, conjs, cond, goes, opened, stuck, outcome, step, ended, is_mark, sees}
 use Rattle.smc_parse.specs.declared.fault.Fault.TheVariants.{Wrong}
 use Rattle.smc_parse.specs.Reading.{ahead, Stands, Leads, Stops, given}
 use Rattle.smc_parse.specs.Chains.{compares_none, compares_none_first}
-use Rattle.smc_parse.proofs.LeadLaws.{Chooses, Opens, leads-seen, leads-step, stops-step, stops-end, first-is}
+use Rattle.smc_parse.proofs.LeadLaws.{Chooses, Opens, leads-seen, leads-step}
 
 -- ---- chains
 

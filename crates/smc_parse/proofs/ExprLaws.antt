@@ -1,5 +1,5 @@
 -- What a token makes of the plan of an expression.
-use Rattle.std.proofs.Common.{◌≡◌, ℕ, ◌+◌, ◌≤◌, Bool, true, false, List, [], ◌∷◌, length, None, refl, ap, arith, ◌∙◌, sym}
+use Rattle.std.proofs.Common.{◌≡◌, ℕ, ◌+◌, ◌≤◌, true, false, List, [], ◌∷◌, length, None, refl, arith}
 use Rattle.smc_tokens.specs.declared.token.Token.{Token}
 use Rattle.smc_tokens.specs.declared.token.Token.TheVariants.{Name, Word, Date, Number, Text, Sign as OfSign}
 use Rattle.smc_tokens.specs.declared.reserved.Reserved.{Reserved}
@@ -7,11 +7,11 @@ use Rattle.smc_tokens.specs.declared.sign.Sign.{Sign}
 use Rattle.smc_tokens.specs.declared.sign.Sign.TheVariants as signs
 use Rattle.smc_tokens.specs.declared.token.Placed.{Placed}
 use Rattle.smc_query.specs.Trees.{ExprTree, field, number, date, text, sum, difference, product, minus}
-use Rattle.smc_query.specs.Machine.{Plan, must, path, factor, factors, term, terms, expr, Step, goes, wrong, opened, outcome, step, ended, is_mark, sees}
+use Rattle.smc_query.specs.Machine.{Plan, must, path, factor, factors, term, terms, expr, goes, wrong, opened, outcome, step, ended, is_mark, sees}
 use Rattle.smc_parse.specs.declared.fault.Fault.TheVariants.{Wrong}
 use Rattle.smc_parse.specs.declared.expr.Joint.TheVariants.{Plus, Minus}
 use Rattle.smc_parse.specs.Reading.{ahead, Stands, Leads, Stops, given}
-use Rattle.smc_parse.specs.Chains.{joined, HasTerm, HasNoTerm}
+use Rattle.smc_parse.specs.Chains.{HasTerm, HasNoTerm}
 use Rattle.smc_parse.proofs.LeadLaws.{Chooses, Opens, leads-seen, leads-step, stops-step, stops-end, first-is}
 
 -- ---- chains

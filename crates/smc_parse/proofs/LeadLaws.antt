@@ -1,10 +1,10 @@
 -- Plans along the tokens: one lead after another, and a mark that may come.
-use Rattle.std.proofs.Common.{◌≡◌, ℕ, zero, suc, ◌+◌, ◌-◌, ◌<◌, ◌≤◌, Bool, true, false, if◌then◌else◌, List, [], ◌∷◌, length, Option, None, Result, Ok, Err, refl, ap, arith, ◌∙◌, sym, subst}
+use Rattle.std.proofs.Common.{◌≡◌, ℕ, zero, suc, ◌+◌, ◌-◌, ◌<◌, ◌≤◌, Bool, true, false, if◌then◌else◌, List, [], ◌∷◌, length, None, Result, Ok, Err, refl, ap, arith, ◌∙◌, sym, subst}
 use Rattle.smc_tokens.specs.declared.token.Token.{Token}
 use Rattle.smc_tokens.specs.declared.token.Placed.{Placed}
-use Rattle.smc_query.specs.Machine.{Plan, must, Step, goes, wrong, deep, opened, Outcome, stuck, too_deep, step, ended, outcome, onward, is_mark, sees}
+use Rattle.smc_query.specs.Machine.{Plan, must, Step, goes, wrong, opened, Outcome, stuck, too_deep, step, ended, outcome, is_mark, sees}
 use Rattle.smc_parse.specs.declared.fault.Fault.{Fault}
-use Rattle.smc_parse.specs.declared.fault.Fault.TheVariants.{Wrong, TooDeep, NoMemory}
+use Rattle.smc_parse.specs.declared.fault.Fault.TheVariants.{Wrong, TooDeep}
 use Rattle.smc_parse.specs.Reading.{ahead, Stands, StopsBy, Leads, Stops, Reads, given}
 use Rattle.smc_parse.proofs.AheadLaws.{Marked, marked-at}
 

@@ -1,15 +1,13 @@
 -- What a token makes of the plan of each part.
-use Rattle.std.proofs.Common.{◌≡◌, ℕ, suc, zero, ◌+◌, ◌-◌, ◌<◌, ◌≤◌, Bool, true, false, if◌then◌else◌, List, [], ◌∷◌, ◌++◌, length, Option, Some, None, refl, ap, arith, ◌∙◌, sym, subst}
+use Rattle.std.proofs.Common.{◌≡◌, ℕ, suc, zero, ◌+◌, ◌≤◌, true, if◌then◌else◌, List, [], ◌∷◌, ◌++◌, length, refl}
 use Rattle.smc_tokens.specs.declared.token.Token.{Token}
-use Rattle.smc_tokens.specs.declared.token.Token.TheVariants.{Name, Word, Date, Number, Text, Sign}
-use Rattle.smc_tokens.specs.declared.reserved.Reserved.TheVariants as words
+use Rattle.smc_tokens.specs.declared.token.Token.TheVariants.{Name, Number, Sign}
 use Rattle.smc_tokens.specs.declared.sign.Sign.TheVariants as signs
 use Rattle.smc_tokens.specs.declared.token.Placed.{Placed}
-use Rattle.smc_query.specs.Trees.{PathTree, ExprTree, field, number, date, text, sum, difference, product, minus, CondTree, either, both, negation, comparison, within, Aggregate, CallTree, ItemTree, KeyTree}
-use Rattle.smc_query.specs.Machine.{Plan, may, whole, name, names, factor, factors, term, terms, expr, neg, negs, conj, conjs, cond, compared, paths, path, call, item, items, key, keys, Step, goes, wrong, deep, Outcome, stuck, too_deep, step, ended, outcome, onward, is_mark, sees}
-use Rattle.smc_parse.specs.declared.fault.Fault.{Fault}
-use Rattle.smc_parse.specs.declared.fault.Fault.TheVariants.{Wrong, TooDeep, NoMemory}
-use Rattle.smc_parse.specs.Reading.{ahead, names_none, wholes_none, Stands, StopsBy, Leads, Stops, given}
+use Rattle.smc_query.specs.Trees.{PathTree, ItemTree, KeyTree}
+use Rattle.smc_query.specs.Machine.{Plan, may, whole, name, names, paths, path, item, items, key, keys, goes, stuck, step, ended, outcome, is_mark}
+use Rattle.smc_parse.specs.declared.fault.Fault.TheVariants.{Wrong}
+use Rattle.smc_parse.specs.Reading.{ahead, names_none, wholes_none, Stands, Leads, Stops, given}
 use Rattle.smc_parse.proofs.LeadLaws.{Chooses, leads-step}
 
 -- ---- names

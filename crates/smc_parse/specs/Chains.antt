@@ -1,12 +1,12 @@
 -- How an expression goes on behind a part of it, and what compares two.
-use Rattle.std.specs.Prelude.{ℕ, ◌+◌, Bool, true, false, List, [], ◌∷◌}
+use Rattle.std.specs.Prelude.{ℕ, ◌+◌, Bool, true, false, List, ◌∷◌}
 use Rattle.smc_tokens.specs.declared.token.Token.{Token}
 use Rattle.smc_tokens.specs.declared.token.Token.TheVariants.{Sign as OfSign}
 use Rattle.smc_tokens.specs.declared.sign.Sign.{Sign}
 use Rattle.smc_tokens.specs.declared.sign.Sign.TheVariants.{Equal, Unequal, Less, LessEqual, Greater, GreaterEqual}
 use Rattle.smc_tokens.specs.declared.token.Placed.{Placed}
 use Rattle.smc_query.specs.Trees.{ExprTree, sum, difference}
-use Rattle.smc_query.specs.Machine.{Plan, term, terms}
+use Rattle.smc_query.specs.Machine.{term, terms}
 use Rattle.smc_parse.specs.declared.expr.Joint.{Joint}
 use Rattle.smc_parse.specs.declared.expr.Joint.TheVariants.{Plus, Minus}
 use Rattle.smc_parse.specs.Reading.{Leads, given}

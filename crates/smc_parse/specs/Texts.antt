@@ -1,5 +1,5 @@
 -- A whole text, and what reading all its tokens gives.
-use Rattle.std.specs.Prelude.{◌≡◌, ℕ, suc, ◌-◌, List, Option, map, Result}
+use Rattle.std.specs.Prelude.{◌≡◌, ℕ, ◌-◌, List, Option, map, Result}
 use Rattle.std.specs.Result.{MatchResult}
 use Rattle.smc_tokens.specs.declared.token.Token.TheVariants.{Word}
 use Rattle.smc_tokens.specs.declared.token.Placed.{Placed}

@@ -1,4 +1,4 @@
-use Rattle.std.proofs.Common.{ℕ, ◌+◌, ◌-◌, ◌*◌, length}
+use Rattle.std.proofs.Common.{◌+◌, ◌-◌, ◌*◌, length}
 use Rattle.smc_query.specs.Trees.{cond_tree}
 use Rattle.smc_query.specs.Machine.{negs, conj, conjs, cond}
 use Rattle.smc_parse.specs.Reading.{Leads}

@@ -1,4 +1,4 @@
-use Rattle.std.proofs.Common.{ℕ, ◌+◌}
+use Rattle.std.proofs.Common.{◌+◌}
 use Rattle.std.proofs.lemmas.Result.{err_from_is_err_and}
 use Rattle.smc_query.specs.Trees.{ExprTree, CondTree, expr_tree, comparison}
 use Rattle.smc_query.specs.Machine.{Plan, expr, compared}

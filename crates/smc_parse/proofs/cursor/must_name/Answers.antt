@@ -1,6 +1,3 @@
-use Rattle.std.proofs.Common.{sym, ◌∙◌, subst, ◌+◌}
-use Rattle.smc_query.specs.Machine.{name}
-use Rattle.smc_parse.specs.Reading.{Leads, given}
 use Rattle.smc_parse.proofs.PartLaws.{name-leads, name-stops}
 use Rattle.smc_parse.proofs.cursor.must_name.Goals as goal
 

@@ -1,4 +1,4 @@
-use Rattle.std.proofs.Common.{ℕ, ◌+◌, ◌-◌, ◌*◌, length}
+use Rattle.std.proofs.Common.{◌+◌, ◌-◌, ◌*◌, length}
 use Rattle.smc_query.specs.Trees.{expr_tree}
 use Rattle.smc_query.specs.Machine.{term, factors, expr, terms}
 use Rattle.smc_parse.specs.Reading.{Leads}

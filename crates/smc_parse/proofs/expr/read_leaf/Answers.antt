@@ -1,9 +1,7 @@
-use Rattle.std.proofs.Common.{sym, subst, ◌≡◌}
 use Rattle.std.proofs.lemmas.Result.{err_from_is_err_and}
-use Rattle.smc_tokens.specs.declared.token.Token.{Token}
 use Rattle.smc_query.specs.Trees.{ExprTree, PathTree, field, path_tree}
 use Rattle.smc_query.specs.Machine.{Plan, path, factor}
-use Rattle.smc_parse.specs.Reading.{Stands, given}
+use Rattle.smc_parse.specs.Reading.{given}
 use Rattle.smc_parse.proofs.LeadLaws.{then-leads, then-stops}
 use Rattle.smc_parse.proofs.ExprLaws.{number-leads, date-leads, text-leads, field-leads, word-stops, sign-stops, factor-end}
 use Rattle.smc_parse.proofs.expr.read_leaf.Goals as goal

@@ -1,9 +1,9 @@
-use Rattle.std.proofs.Common.{List, [], ◌+◌, ◌<◌, length, map, sym, arith}
+use Rattle.std.proofs.Common.{[], ◌+◌, ◌<◌, length, map, sym, arith}
 use Rattle.std.proofs.lemmas.Result.{err_from_is_err_and}
 use Rattle.smc_tokens.specs.declared.token.Token.TheVariants.{Word}
 use Rattle.smc_tokens.specs.declared.reserved.Reserved.TheVariants as words
-use Rattle.smc_query.specs.Trees.{KeyTree, key_tree}
-use Rattle.smc_query.specs.Machine.{Plan, sort}
+use Rattle.smc_query.specs.Trees.{key_tree}
+use Rattle.smc_query.specs.Machine.{sort}
 use Rattle.smc_parse.specs.Reading.{given}
 use Rattle.smc_parse.specs.Parts.{key_list}
 use Rattle.smc_parse.proofs.LeadLaws.{leads-on, leads-mark, leads-none, stops-on, mark-within, Chooses}

@@ -1,5 +1,4 @@
-use Rattle.std.proofs.Common.{List, ℕ, length, ◌-◌, map}
-use Rattle.smc_query.specs.Trees.{PathTree}
+use Rattle.std.proofs.Common.{length, ◌-◌}
 use Rattle.smc_query.specs.Machine.{path, names}
 use Rattle.smc_parse.specs.Reading.{Leads}
 use Rattle.smc_parse.proofs.path.read_path.Given as goal

@@ -1,9 +1,9 @@
-use Rattle.std.proofs.Common.{List, ℕ, Option, map}
+use Rattle.std.proofs.Common.{List, ℕ, map}
 use Rattle.std.proofs.lemmas.Result.{err_from_is_err_and}
 use Rattle.smc_query.specs.Trees.{ItemTree, KeyTree, item_tree, key_tree}
-use Rattle.smc_query.specs.Machine.{Plan, sort, first}
+use Rattle.smc_query.specs.Machine.{sort, first}
 use Rattle.smc_parse.specs.Reading.{given}
-use Rattle.smc_parse.specs.Texts.{TailTree, tail_plan}
+use Rattle.smc_parse.specs.Texts.{tail_plan}
 use Rattle.smc_parse.proofs.LeadLaws.{then-leads, then-stops}
 use Rattle.smc_parse.proofs.TextLaws.{by_items, by_keys, by_count, tail-items, tail-sort}
 use Rattle.smc_parse.proofs.query.read_tail.Goals as goal

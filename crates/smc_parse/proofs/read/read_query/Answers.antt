@@ -1,4 +1,3 @@
-use Rattle.std.proofs.Common.{ℕ}
 use Rattle.std.proofs.lemmas.Result.{err_from_is_err_and}
 use Rattle.smc_query.specs.Trees.{Answer, a_query}
 use Rattle.smc_query.specs.Machine.{done}
