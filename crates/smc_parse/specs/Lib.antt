@@ -1,0 +1,5 @@
+pub mod Reading
+pub mod Chains
+pub mod Calls
+pub mod Parts
+pub mod Texts
