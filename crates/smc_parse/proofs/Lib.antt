@@ -5,3 +5,4 @@ mod ExprLaws
 mod CondLaws
 mod CallLaws
 mod TextLaws
+mod PlaceLaws

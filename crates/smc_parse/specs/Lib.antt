@@ -3,3 +3,4 @@ pub mod Chains
 pub mod Calls
 pub mod Parts
 pub mod Texts
+pub mod Places

@@ -4,8 +4,9 @@
 //! `call`, `cond` and `expr` what nests, `path` the names; `cursor` looks at the token of a place, `nodes` puts trees
 //! together, `fault` says why tokens are no text, `limits` how deep they may nest. Below stands `smc_query` with the
 //! grammar; above it the language, which has bytes for tokens. One token of look-ahead decides, and nothing is read twice.
-//! Callers may rely on this: the answer is what `specs/Machine.antt` of `smc_query` makes of the tokens, and a fault
-//! stands where it stops. `specs/Reading.antt` says what reading a part means, `specs/Texts.antt` what reading a text does.
+//! Callers may rely on this: the tree is the one that all tokens spell, or the fault stands at the first token of which no
+//! text goes on, or which opens too much. That is defined in `specs/Places.antt` by the grammar, and proved by what
+//! `specs/Machine.antt` of `smc_query` makes of the tokens: `specs/Reading.antt` says it of a part, `specs/Texts.antt` of all.
 #![tactic(auto)]
 
 mod call;

@@ -1,6 +1,7 @@
 ghost use Rattle.std.specs.Prelude.{◌≤◌, length};
 ghost use Rattle.smc_query.specs.Trees.{a_cond, a_query, an_edit, cond_text, cond_tree, edit_text, expr_tree, filter_tree, query_text, query_tree};
 ghost use Rattle.smc_parse.specs.Texts.{Ends, ReadsAll};
+ghost use Rattle.smc_parse.specs.Places.{SpelledOrFault};
 
 use crate::Fault;
 use crate::cond::read_cond as read_condition;
@@ -24,8 +25,8 @@ fn must_end(tokens: &[Placed], at: usize) -> Result<(), Fault>
     }
 }
 
-/// Reads a query, of which these are all tokens.
-pub fn read_query(tokens: &[Placed], alloc: Global) -> Result<Query, Fault>
+// A query, of which these are all tokens, as its plan builds it.
+fn build_query(tokens: &[Placed], alloc: Global) -> Result<Query, Fault>
     ensures { ReadsAll query_text (λ query. a_query (query_tree query)) tokens.now result }
 {
     let (head, middle) = read_head(tokens, 0, MAX_OPEN, alloc)?;
@@ -41,8 +42,8 @@ pub fn read_query(tokens: &[Placed], alloc: Global) -> Result<Query, Fault>
     })
 }
 
-/// Reads a condition, of which these are all tokens.
-pub fn read_cond(tokens: &[Placed], alloc: Global) -> Result<Cond, Fault>
+// A condition, of which these are all tokens, as its plan builds it.
+fn build_cond(tokens: &[Placed], alloc: Global) -> Result<Cond, Fault>
     ensures { ReadsAll cond_text (λ cond. a_cond (cond_tree cond)) tokens.now result }
 {
     let (cond, end) = read_condition(tokens, 0, MAX_OPEN, alloc)?;
@@ -50,12 +51,42 @@ pub fn read_cond(tokens: &[Placed], alloc: Global) -> Result<Cond, Fault>
     Ok(cond)
 }
 
-/// Reads an edit, of which these are all tokens: an expression, and a condition where there is one.
-pub fn read_edit(tokens: &[Placed], alloc: Global) -> Result<(Expr, Option<Cond>), Fault>
+// An edit, of which these are all tokens, as its plan builds it.
+fn build_edit(tokens: &[Placed], alloc: Global) -> Result<(Expr, Option<Cond>), Fault>
     ensures { ReadsAll edit_text (λ edit. an_edit (expr_tree edit.0) (filter_tree edit.1)) tokens.now result }
 {
     let (value, middle) = read_expr(tokens, 0, MAX_OPEN, alloc)?;
     let (filter, end) = read_filter(tokens, middle, MAX_OPEN, alloc)?;
     must_end(tokens, end)?;
     Ok((value, filter))
+}
+
+/// Reads a query, of which these are all tokens.
+///
+/// A fault stands at the first token of which no query goes on behind those before it, or which opens too much there.
+pub fn read_query(tokens: &[Placed], alloc: Global) -> Result<Query, Fault>
+    ensures plan { ReadsAll query_text (λ query. a_query (query_tree query)) tokens.now result }
+    ensures spells { SpelledOrFault query_text (λ query. a_query (query_tree query)) tokens.now result }
+{
+    build_query(tokens, alloc)
+}
+
+/// Reads a condition, of which these are all tokens.
+///
+/// A fault stands at the first token of which no condition goes on behind those before it, or which opens too much there.
+pub fn read_cond(tokens: &[Placed], alloc: Global) -> Result<Cond, Fault>
+    ensures plan { ReadsAll cond_text (λ cond. a_cond (cond_tree cond)) tokens.now result }
+    ensures spells { SpelledOrFault cond_text (λ cond. a_cond (cond_tree cond)) tokens.now result }
+{
+    build_cond(tokens, alloc)
+}
+
+/// Reads an edit, of which these are all tokens: an expression, and a condition where there is one.
+///
+/// A fault stands at the first token of which no edit goes on behind those before it, or which opens too much there.
+pub fn read_edit(tokens: &[Placed], alloc: Global) -> Result<(Expr, Option<Cond>), Fault>
+    ensures plan { ReadsAll edit_text (λ edit. an_edit (expr_tree edit.0) (filter_tree edit.1)) tokens.now result }
+    ensures spells { SpelledOrFault edit_text (λ edit. an_edit (expr_tree edit.0) (filter_tree edit.1)) tokens.now result }
+{
+    build_edit(tokens, alloc)
 }

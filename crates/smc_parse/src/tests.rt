@@ -253,9 +253,10 @@ fn a_difference_pairs_from_the_left(rt: HostRuntime) -> Result<(), Fail> {
 fn and_binds_closer_than_or(rt: HostRuntime) -> Result<(), Fail> {
     let alloc = rt.alloc();
     let tokens = tokens_of(alloc, "1 = 1 or 2 = 2 and 3 = 3")?;
-    let binds = match read_cond(tokens.as_slice(), alloc)? {
+    let cond = read_cond(tokens.as_slice(), alloc)?;
+    let binds = match &cond {
         Cond::Or(left, right) => {
-            matches!(&*left, Cond::Compare { .. }) && matches!(&*right, Cond::And(..))
+            matches!(&**left, Cond::Compare { .. }) && matches!(&**right, Cond::And(..))
         }
         _ => false,
     };
