@@ -35,7 +35,7 @@ module _ (shape : Layout) (valid : IsShape shape) where
         ((epochs-kept shape valid).kept state pass choice offered told w within h.epochs offers is);
   }
 
-  rounds-first : (opening : Opening) → IsOpening opening → Rounds shape (first_state shape opening)
+  pub rounds-first : (opening : Opening) → IsOpening opening → Rounds shape (first_state shape opening)
   rounds-first opening o = let first = relocation-first shape opening o in record {
     epochs = epochs-first shape valid opening o;
     rule = record { names_owner = first.round_owner.names; calm_bound = first.calm_bound };

@@ -81,7 +81,7 @@ epoch_low (Lasting epoch) f = f
 epoch_low (Inside epoch calm) f = f
 
 -- what a section holds has its entry and its slot
-held-in : (shape : Layout) (held : List Held) (number : Number) (slot : ℕ) → All (IsHeldWithin shape) held → held_slot held number ≡ Some slot
+pub held-in : (shape : Layout) (held : List Held) (number : Number) (slot : ℕ) → All (IsHeldWithin shape) held → held_slot held number ≡ Some slot
     → IsNamed shape number × IsSlot shape number.coll slot
 held-in shape [] number slot a is = cc
 held-in shape (first ∷ later) number slot a is =

@@ -21,20 +21,20 @@ use Rattle.smc_rules.proofs.MirrorLaws.{mirrored}
 
 module _ {A : Type 0} where
   -- what was put there is found there
-  get-set_same : (xs : List A) (i : ℕ) (x y : A) → slice_get xs i ≡ Some x → slice_get (slice_set xs i y) i ≡ Some y
+  pub get-set_same : (xs : List A) (i : ℕ) (x y : A) → slice_get xs i ≡ Some x → slice_get (slice_set xs i y) i ≡ Some y
   get-set_same [] i x y e = cc
   get-set_same (a ∷ xs) zero x y e = refl
   get-set_same (a ∷ xs) (suc i) x y e = get-set_same xs i x y e
 
   -- elsewhere nothing changes
-  get-set_other : (xs : List A) (i j : ℕ) (y : A) → j ≢ i → slice_get (slice_set xs i y) j ≡ slice_get xs j
+  pub get-set_other : (xs : List A) (i j : ℕ) (y : A) → j ≢ i → slice_get (slice_set xs i y) j ≡ slice_get xs j
   get-set_other [] i j y n = refl
   get-set_other (a ∷ xs) zero zero y n = absurd (n refl)
   get-set_other (a ∷ xs) zero (suc j) y n = refl
   get-set_other (a ∷ xs) (suc i) zero y n = refl
   get-set_other (a ∷ xs) (suc i) (suc j) y n = get-set_other xs i j y (λ e. n (ap suc e))
 
-  some-same : (x y : A) → Some x ≡ Some y → x ≡ y
+  pub some-same : (x y : A) → Some x ≡ Some y → x ≡ y
   some-same x y e = cc
 
 -- one pass or another
@@ -55,7 +55,7 @@ put_stand-other stands pass i stand ne = ap (λ (b : Bool). if b then stand else
 
 module _ (shape : Layout) (these : Place → Bool) (valid : IsShape shape) where
   -- a step of the machine is a step of the state behind it
-  backs_step : (m : Machine) (pass : ℕ) (choice : Choice) (l : Local) (told : ℕ) (op : Op) (state : State)
+  pub backs_step : (m : Machine) (pass : ℕ) (choice : Choice) (l : Local) (told : ℕ) (op : Op) (state : State)
       → Backs shape these m.row m.locals state → slice_get m.locals pass ≡ Some l
       → IsMirrored shape these m.row state.memory op
       → let next : Machine = stepped shape m pass l choice told op in

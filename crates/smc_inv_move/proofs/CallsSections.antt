@@ -1,0 +1,314 @@
+-- Steps keep the agreement: calls, sections. Written by tools/laws.py.
+use Rattle.std.proofs.Common.{◌≡◌, ℕ, ◌+◌, ◌<◌, Bool, arith}
+use Rattle.std.proofs.lemmas.Bool.Decides.{nat_tests}
+use Rattle.smc_shape.specs.Layout.{Layout}
+use Rattle.smc_shape.specs.declared.place.Place.TheVariants as place
+use Rattle.smc_core.specs.declared.call.Call.TheVariants as call
+use Rattle.smc_core.specs.declared.call.Choice.TheVariants.{Start, Go}
+use Rattle.smc_core.specs.declared.op.Op.TheVariants.{Load, Store, Exchange}
+use Rattle.smc_core.specs.declared.phase.Phase.TheVariants as phase
+use Rattle.smc_core.specs.declared.section.Section.{Section}
+use Rattle.smc_core.specs.declared.section.Section.TheVariants.{Outside, Loaded, Announced, Again, Lasting, Inside}
+use Rattle.smc_core.specs.declared.word.Word.TheVariants as word
+use Rattle.smc_rules.specs.State as S
+use Rattle.smc_rules.specs.State.{put_stand}
+use Rattle.smc_agreement.specs.Kept.{Nothing}
+use Rattle.smc_agreement.specs.Agreement.{CallsAgree}
+use Rattle.smc_agreement.proofs.Whole.{Shut, calls, did, sections}
+
+-- kind 1
+pub enter : (sh : Layout) (st : S.State) (p : ℕ) (told : ℕ) → p < sh.passes → (st.stands p).section ≡ Outside → (st.stands p).phase ≡ phase.Idle → Shut sh st → Nothing sh st
+    → CallsAgree sh (did sh st p (Start call.Enter) Outside phase.Idle told (Load place.Epoch))
+enter sh st p told in_n at_sec at_call h _ = record {
+  calls = λ i li. grind (arith, nat_tests, (calls h).calls i li);
+  c_slot = λ i c' s' li is. grind (arith, nat_tests, (calls h).c_slot i c' s' li);
+  c_entry = λ i c' a' e' li is. grind (arith, nat_tests, (calls h).c_entry i c' a' e' li);
+  c_named = λ i c' s' a' e' li is. grind (arith, nat_tests, (calls h).c_named i c' s' a' e' li);
+  c_target = λ i c' s' li is. grind (arith, nat_tests, (calls h).c_target i c' s' li);
+  c_lives = λ i c' s' a' e' li is. grind (arith, nat_tests, (calls h).c_lives i c' s' a' e' li);
+  c_leads = λ i c' s' t' li is. grind (arith, nat_tests, (calls h).c_leads i c' s' t' li);
+  c_origin = λ i c' s' a' e' li is. grind (arith, nat_tests, (calls h).c_origin i c' s' a' e' li);
+  c_source = λ i c' s' a' e' li is. grind (arith, nat_tests, (calls h).c_source i c' s' a' e' li);
+  c_resting = λ i c' s' a' e' li is. grind (arith, nat_tests, (calls h).c_resting i c' s' a' e' li);
+  c_loose = λ i c' s' a' e' li is nm. grind (arith, nat_tests, (calls h).c_loose i c' s' a' e' li);
+  c_tries = λ i c' s' a' e' li is. grind (arith, nat_tests, (calls h).c_tries i c' s' a' e' li);
+  c_removes = λ i c' a' e' li is. grind (arith, nat_tests, (calls h).c_removes i c' a' e' li);
+  c_leaving = λ i c' s' a' e' li is. grind (arith, nat_tests, (calls h).c_leaving i c' s' a' e' li);
+  c_limbos = λ i c' s' a' e' li is. grind (arith, nat_tests, (calls h).c_limbos i c' s' a' e' li);
+  c_frees = λ i c' s' a' e' li is st'. grind (arith, nat_tests, (calls h).c_frees i c' s' a' e' li);
+  c_leaves = λ i c' s' li is. grind (arith, nat_tests, (calls h).c_leaves i c' s' li);
+  c_apart = λ i c' s' a' e' li is nm. grind (arith, nat_tests, (calls h).c_apart i c' s' a' e' li);
+  c_moved = λ i c' s' a' e' li is nm. grind (arith, nat_tests, (calls h).c_moved i c' s' a' e' li);
+  c_ends = λ i c' s' t' li is. grind (arith, nat_tests, (calls h).c_ends i c' s' t' li);
+  c_passed = λ i c' s' li is. grind (arith, nat_tests, (calls h).c_passed i c' s' li);
+}
+
+-- kind 2
+pub announce : (sh : Layout) (st : S.State) (p : ℕ) (v : ℕ) (told : ℕ) → p < sh.passes → (st.stands p).section ≡ Loaded v → (st.stands p).phase ≡ phase.Entering → Shut sh st → Nothing sh st
+    → CallsAgree sh (did sh st p Go (Loaded v) phase.Entering told (Store (place.Section p) (word.Plain v)))
+announce sh st p v told in_n at_sec at_call h _ = record {
+  calls = λ i li. grind (arith, nat_tests, (calls h).calls i li, (calls h).calls p in_n, sections sh st h p in_n);
+  c_slot = λ i c' s' li is. grind (arith, nat_tests, (calls h).c_slot i c' s' li, (calls h).calls p in_n, sections sh st h p in_n);
+  c_entry = λ i c' a' e' li is. grind (arith, nat_tests, (calls h).c_entry i c' a' e' li, (calls h).calls p in_n, sections sh st h p in_n);
+  c_named = λ i c' s' a' e' li is. grind (arith, nat_tests, (calls h).c_named i c' s' a' e' li, (calls h).calls p in_n, sections sh st h p in_n);
+  c_target = λ i c' s' li is. grind (arith, nat_tests, (calls h).c_target i c' s' li, (calls h).calls p in_n, sections sh st h p in_n);
+  c_lives = λ i c' s' a' e' li is. grind (arith, nat_tests, (calls h).c_lives i c' s' a' e' li, (calls h).calls p in_n, sections sh st h p in_n);
+  c_leads = λ i c' s' t' li is. grind (arith, nat_tests, (calls h).c_leads i c' s' t' li, (calls h).calls p in_n, sections sh st h p in_n);
+  c_origin = λ i c' s' a' e' li is. grind (arith, nat_tests, (calls h).c_origin i c' s' a' e' li, (calls h).calls p in_n, sections sh st h p in_n);
+  c_source = λ i c' s' a' e' li is. grind (arith, nat_tests, (calls h).c_source i c' s' a' e' li, (calls h).calls p in_n, sections sh st h p in_n);
+  c_resting = λ i c' s' a' e' li is. grind (arith, nat_tests, (calls h).c_resting i c' s' a' e' li, (calls h).calls p in_n, sections sh st h p in_n);
+  c_loose = λ i c' s' a' e' li is nm. grind (arith, nat_tests, (calls h).c_loose i c' s' a' e' li, (calls h).calls p in_n, sections sh st h p in_n);
+  c_tries = λ i c' s' a' e' li is. grind (arith, nat_tests, (calls h).c_tries i c' s' a' e' li, (calls h).calls p in_n, sections sh st h p in_n);
+  c_removes = λ i c' a' e' li is. grind (arith, nat_tests, (calls h).c_removes i c' a' e' li, (calls h).calls p in_n, sections sh st h p in_n);
+  c_leaving = λ i c' s' a' e' li is. grind (arith, nat_tests, (calls h).c_leaving i c' s' a' e' li, (calls h).calls p in_n, sections sh st h p in_n);
+  c_limbos = λ i c' s' a' e' li is. grind (arith, nat_tests, (calls h).c_limbos i c' s' a' e' li, (calls h).calls p in_n, sections sh st h p in_n);
+  c_frees = λ i c' s' a' e' li is st'. grind (arith, nat_tests, (calls h).c_frees i c' s' a' e' li, (calls h).calls p in_n, sections sh st h p in_n);
+  c_leaves = λ i c' s' li is. grind (arith, nat_tests, (calls h).c_leaves i c' s' li, (calls h).calls p in_n, sections sh st h p in_n);
+  c_apart = λ i c' s' a' e' li is nm. grind (arith, nat_tests, (calls h).c_apart i c' s' a' e' li, (calls h).calls p in_n, sections sh st h p in_n);
+  c_moved = λ i c' s' a' e' li is nm. grind (arith, nat_tests, (calls h).c_moved i c' s' a' e' li, (calls h).calls p in_n, sections sh st h p in_n);
+  c_ends = λ i c' s' t' li is. grind (arith, nat_tests, (calls h).c_ends i c' s' t' li, (calls h).calls p in_n, sections sh st h p in_n);
+  c_passed = λ i c' s' li is. grind (arith, nat_tests, (calls h).c_passed i c' s' li, (calls h).calls p in_n, sections sh st h p in_n);
+}
+
+-- kind 3
+pub again : (sh : Layout) (st : S.State) (p : ℕ) (v : ℕ) (told : ℕ) → p < sh.passes → (st.stands p).section ≡ Announced v → (st.stands p).phase ≡ phase.Entering → Shut sh st → Nothing sh st
+    → CallsAgree sh (did sh st p Go (Announced v) phase.Entering told (Load place.Epoch))
+again sh st p v told in_n at_sec at_call h _ = record {
+  calls = λ i li. grind (arith, nat_tests, (calls h).calls i li, (calls h).calls p in_n, sections sh st h p in_n);
+  c_slot = λ i c' s' li is. grind (arith, nat_tests, (calls h).c_slot i c' s' li, (calls h).calls p in_n, sections sh st h p in_n);
+  c_entry = λ i c' a' e' li is. grind (arith, nat_tests, (calls h).c_entry i c' a' e' li, (calls h).calls p in_n, sections sh st h p in_n);
+  c_named = λ i c' s' a' e' li is. grind (arith, nat_tests, (calls h).c_named i c' s' a' e' li, (calls h).calls p in_n, sections sh st h p in_n);
+  c_target = λ i c' s' li is. grind (arith, nat_tests, (calls h).c_target i c' s' li, (calls h).calls p in_n, sections sh st h p in_n);
+  c_lives = λ i c' s' a' e' li is. grind (arith, nat_tests, (calls h).c_lives i c' s' a' e' li, (calls h).calls p in_n, sections sh st h p in_n);
+  c_leads = λ i c' s' t' li is. grind (arith, nat_tests, (calls h).c_leads i c' s' t' li, (calls h).calls p in_n, sections sh st h p in_n);
+  c_origin = λ i c' s' a' e' li is. grind (arith, nat_tests, (calls h).c_origin i c' s' a' e' li, (calls h).calls p in_n, sections sh st h p in_n);
+  c_source = λ i c' s' a' e' li is. grind (arith, nat_tests, (calls h).c_source i c' s' a' e' li, (calls h).calls p in_n, sections sh st h p in_n);
+  c_resting = λ i c' s' a' e' li is. grind (arith, nat_tests, (calls h).c_resting i c' s' a' e' li, (calls h).calls p in_n, sections sh st h p in_n);
+  c_loose = λ i c' s' a' e' li is nm. grind (arith, nat_tests, (calls h).c_loose i c' s' a' e' li, (calls h).calls p in_n, sections sh st h p in_n);
+  c_tries = λ i c' s' a' e' li is. grind (arith, nat_tests, (calls h).c_tries i c' s' a' e' li, (calls h).calls p in_n, sections sh st h p in_n);
+  c_removes = λ i c' a' e' li is. grind (arith, nat_tests, (calls h).c_removes i c' a' e' li, (calls h).calls p in_n, sections sh st h p in_n);
+  c_leaving = λ i c' s' a' e' li is. grind (arith, nat_tests, (calls h).c_leaving i c' s' a' e' li, (calls h).calls p in_n, sections sh st h p in_n);
+  c_limbos = λ i c' s' a' e' li is. grind (arith, nat_tests, (calls h).c_limbos i c' s' a' e' li, (calls h).calls p in_n, sections sh st h p in_n);
+  c_frees = λ i c' s' a' e' li is st'. grind (arith, nat_tests, (calls h).c_frees i c' s' a' e' li, (calls h).calls p in_n, sections sh st h p in_n);
+  c_leaves = λ i c' s' li is. grind (arith, nat_tests, (calls h).c_leaves i c' s' li, (calls h).calls p in_n, sections sh st h p in_n);
+  c_apart = λ i c' s' a' e' li is nm. grind (arith, nat_tests, (calls h).c_apart i c' s' a' e' li, (calls h).calls p in_n, sections sh st h p in_n);
+  c_moved = λ i c' s' a' e' li is nm. grind (arith, nat_tests, (calls h).c_moved i c' s' a' e' li, (calls h).calls p in_n, sections sh st h p in_n);
+  c_ends = λ i c' s' t' li is. grind (arith, nat_tests, (calls h).c_ends i c' s' t' li, (calls h).calls p in_n, sections sh st h p in_n);
+  c_passed = λ i c' s' li is. grind (arith, nat_tests, (calls h).c_passed i c' s' li, (calls h).calls p in_n, sections sh st h p in_n);
+}
+
+-- kind 4
+pub lasting : (sh : Layout) (st : S.State) (p : ℕ) (v : ℕ) (z : ℕ) (told : ℕ) → p < sh.passes → (st.stands p).section ≡ Again v z → (st.stands p).phase ≡ phase.Entering → Shut sh st → Nothing sh st
+    → CallsAgree sh (did sh st p Go (Again v z) phase.Entering told (Store (place.Section p) (word.Plain z)))
+lasting sh st p v z told in_n at_sec at_call h _ = record {
+  calls = λ i li. grind (arith, nat_tests, (calls h).calls i li, (calls h).calls p in_n, sections sh st h p in_n);
+  c_slot = λ i c' s' li is. grind (arith, nat_tests, (calls h).c_slot i c' s' li, (calls h).calls p in_n, sections sh st h p in_n);
+  c_entry = λ i c' a' e' li is. grind (arith, nat_tests, (calls h).c_entry i c' a' e' li, (calls h).calls p in_n, sections sh st h p in_n);
+  c_named = λ i c' s' a' e' li is. grind (arith, nat_tests, (calls h).c_named i c' s' a' e' li, (calls h).calls p in_n, sections sh st h p in_n);
+  c_target = λ i c' s' li is. grind (arith, nat_tests, (calls h).c_target i c' s' li, (calls h).calls p in_n, sections sh st h p in_n);
+  c_lives = λ i c' s' a' e' li is. grind (arith, nat_tests, (calls h).c_lives i c' s' a' e' li, (calls h).calls p in_n, sections sh st h p in_n);
+  c_leads = λ i c' s' t' li is. grind (arith, nat_tests, (calls h).c_leads i c' s' t' li, (calls h).calls p in_n, sections sh st h p in_n);
+  c_origin = λ i c' s' a' e' li is. grind (arith, nat_tests, (calls h).c_origin i c' s' a' e' li, (calls h).calls p in_n, sections sh st h p in_n);
+  c_source = λ i c' s' a' e' li is. grind (arith, nat_tests, (calls h).c_source i c' s' a' e' li, (calls h).calls p in_n, sections sh st h p in_n);
+  c_resting = λ i c' s' a' e' li is. grind (arith, nat_tests, (calls h).c_resting i c' s' a' e' li, (calls h).calls p in_n, sections sh st h p in_n);
+  c_loose = λ i c' s' a' e' li is nm. grind (arith, nat_tests, (calls h).c_loose i c' s' a' e' li, (calls h).calls p in_n, sections sh st h p in_n);
+  c_tries = λ i c' s' a' e' li is. grind (arith, nat_tests, (calls h).c_tries i c' s' a' e' li, (calls h).calls p in_n, sections sh st h p in_n);
+  c_removes = λ i c' a' e' li is. grind (arith, nat_tests, (calls h).c_removes i c' a' e' li, (calls h).calls p in_n, sections sh st h p in_n);
+  c_leaving = λ i c' s' a' e' li is. grind (arith, nat_tests, (calls h).c_leaving i c' s' a' e' li, (calls h).calls p in_n, sections sh st h p in_n);
+  c_limbos = λ i c' s' a' e' li is. grind (arith, nat_tests, (calls h).c_limbos i c' s' a' e' li, (calls h).calls p in_n, sections sh st h p in_n);
+  c_frees = λ i c' s' a' e' li is st'. grind (arith, nat_tests, (calls h).c_frees i c' s' a' e' li, (calls h).calls p in_n, sections sh st h p in_n);
+  c_leaves = λ i c' s' li is. grind (arith, nat_tests, (calls h).c_leaves i c' s' li, (calls h).calls p in_n, sections sh st h p in_n);
+  c_apart = λ i c' s' a' e' li is nm. grind (arith, nat_tests, (calls h).c_apart i c' s' a' e' li, (calls h).calls p in_n, sections sh st h p in_n);
+  c_moved = λ i c' s' a' e' li is nm. grind (arith, nat_tests, (calls h).c_moved i c' s' a' e' li, (calls h).calls p in_n, sections sh st h p in_n);
+  c_ends = λ i c' s' t' li is. grind (arith, nat_tests, (calls h).c_ends i c' s' t' li, (calls h).calls p in_n, sections sh st h p in_n);
+  c_passed = λ i c' s' li is. grind (arith, nat_tests, (calls h).c_passed i c' s' li, (calls h).calls p in_n, sections sh st h p in_n);
+}
+
+-- kind 5
+pub entered : (sh : Layout) (st : S.State) (p : ℕ) (z : ℕ) (told : ℕ) → p < sh.passes → (st.stands p).section ≡ Lasting z → (st.stands p).phase ≡ phase.Entering → Shut sh st → Nothing sh st
+    → CallsAgree sh (did sh st p Go (Lasting z) phase.Entering told (Load place.Round))
+entered sh st p z told in_n at_sec at_call h _ = record {
+  calls = λ i li. grind (arith, nat_tests, (calls h).calls i li, (calls h).calls p in_n, sections sh st h p in_n);
+  c_slot = λ i c' s' li is. grind (arith, nat_tests, (calls h).c_slot i c' s' li, (calls h).calls p in_n, sections sh st h p in_n);
+  c_entry = λ i c' a' e' li is. grind (arith, nat_tests, (calls h).c_entry i c' a' e' li, (calls h).calls p in_n, sections sh st h p in_n);
+  c_named = λ i c' s' a' e' li is. grind (arith, nat_tests, (calls h).c_named i c' s' a' e' li, (calls h).calls p in_n, sections sh st h p in_n);
+  c_target = λ i c' s' li is. grind (arith, nat_tests, (calls h).c_target i c' s' li, (calls h).calls p in_n, sections sh st h p in_n);
+  c_lives = λ i c' s' a' e' li is. grind (arith, nat_tests, (calls h).c_lives i c' s' a' e' li, (calls h).calls p in_n, sections sh st h p in_n);
+  c_leads = λ i c' s' t' li is. grind (arith, nat_tests, (calls h).c_leads i c' s' t' li, (calls h).calls p in_n, sections sh st h p in_n);
+  c_origin = λ i c' s' a' e' li is. grind (arith, nat_tests, (calls h).c_origin i c' s' a' e' li, (calls h).calls p in_n, sections sh st h p in_n);
+  c_source = λ i c' s' a' e' li is. grind (arith, nat_tests, (calls h).c_source i c' s' a' e' li, (calls h).calls p in_n, sections sh st h p in_n);
+  c_resting = λ i c' s' a' e' li is. grind (arith, nat_tests, (calls h).c_resting i c' s' a' e' li, (calls h).calls p in_n, sections sh st h p in_n);
+  c_loose = λ i c' s' a' e' li is nm. grind (arith, nat_tests, (calls h).c_loose i c' s' a' e' li, (calls h).calls p in_n, sections sh st h p in_n);
+  c_tries = λ i c' s' a' e' li is. grind (arith, nat_tests, (calls h).c_tries i c' s' a' e' li, (calls h).calls p in_n, sections sh st h p in_n);
+  c_removes = λ i c' a' e' li is. grind (arith, nat_tests, (calls h).c_removes i c' a' e' li, (calls h).calls p in_n, sections sh st h p in_n);
+  c_leaving = λ i c' s' a' e' li is. grind (arith, nat_tests, (calls h).c_leaving i c' s' a' e' li, (calls h).calls p in_n, sections sh st h p in_n);
+  c_limbos = λ i c' s' a' e' li is. grind (arith, nat_tests, (calls h).c_limbos i c' s' a' e' li, (calls h).calls p in_n, sections sh st h p in_n);
+  c_frees = λ i c' s' a' e' li is st'. grind (arith, nat_tests, (calls h).c_frees i c' s' a' e' li, (calls h).calls p in_n, sections sh st h p in_n);
+  c_leaves = λ i c' s' li is. grind (arith, nat_tests, (calls h).c_leaves i c' s' li, (calls h).calls p in_n, sections sh st h p in_n);
+  c_apart = λ i c' s' a' e' li is nm. grind (arith, nat_tests, (calls h).c_apart i c' s' a' e' li, (calls h).calls p in_n, sections sh st h p in_n);
+  c_moved = λ i c' s' a' e' li is nm. grind (arith, nat_tests, (calls h).c_moved i c' s' a' e' li, (calls h).calls p in_n, sections sh st h p in_n);
+  c_ends = λ i c' s' t' li is. grind (arith, nat_tests, (calls h).c_ends i c' s' t' li, (calls h).calls p in_n, sections sh st h p in_n);
+  c_passed = λ i c' s' li is. grind (arith, nat_tests, (calls h).c_passed i c' s' li, (calls h).calls p in_n, sections sh st h p in_n);
+}
+
+-- kind 6
+pub leave : (sh : Layout) (st : S.State) (p : ℕ) (x : ℕ) (calm : Bool) (told : ℕ) → p < sh.passes → (st.stands p).section ≡ Inside x calm → (st.stands p).phase ≡ phase.Idle → Shut sh st → Nothing sh st
+    → CallsAgree sh (did sh st p (Start call.Leave) (Inside x calm) phase.Idle told (Store (place.Section p) (word.Plain 0)))
+leave sh st p x calm told in_n at_sec at_call h _ = record {
+  calls = λ i li. grind (arith, nat_tests, (calls h).calls i li, (calls h).calls p in_n, sections sh st h p in_n);
+  c_slot = λ i c' s' li is. grind (arith, nat_tests, (calls h).c_slot i c' s' li, (calls h).calls p in_n, sections sh st h p in_n);
+  c_entry = λ i c' a' e' li is. grind (arith, nat_tests, (calls h).c_entry i c' a' e' li, (calls h).calls p in_n, sections sh st h p in_n);
+  c_named = λ i c' s' a' e' li is. grind (arith, nat_tests, (calls h).c_named i c' s' a' e' li, (calls h).calls p in_n, sections sh st h p in_n);
+  c_target = λ i c' s' li is. grind (arith, nat_tests, (calls h).c_target i c' s' li, (calls h).calls p in_n, sections sh st h p in_n);
+  c_lives = λ i c' s' a' e' li is. grind (arith, nat_tests, (calls h).c_lives i c' s' a' e' li, (calls h).calls p in_n, sections sh st h p in_n);
+  c_leads = λ i c' s' t' li is. grind (arith, nat_tests, (calls h).c_leads i c' s' t' li, (calls h).calls p in_n, sections sh st h p in_n);
+  c_origin = λ i c' s' a' e' li is. grind (arith, nat_tests, (calls h).c_origin i c' s' a' e' li, (calls h).calls p in_n, sections sh st h p in_n);
+  c_source = λ i c' s' a' e' li is. grind (arith, nat_tests, (calls h).c_source i c' s' a' e' li, (calls h).calls p in_n, sections sh st h p in_n);
+  c_resting = λ i c' s' a' e' li is. grind (arith, nat_tests, (calls h).c_resting i c' s' a' e' li, (calls h).calls p in_n, sections sh st h p in_n);
+  c_loose = λ i c' s' a' e' li is nm. grind (arith, nat_tests, (calls h).c_loose i c' s' a' e' li, (calls h).calls p in_n, sections sh st h p in_n);
+  c_tries = λ i c' s' a' e' li is. grind (arith, nat_tests, (calls h).c_tries i c' s' a' e' li, (calls h).calls p in_n, sections sh st h p in_n);
+  c_removes = λ i c' a' e' li is. grind (arith, nat_tests, (calls h).c_removes i c' a' e' li, (calls h).calls p in_n, sections sh st h p in_n);
+  c_leaving = λ i c' s' a' e' li is. grind (arith, nat_tests, (calls h).c_leaving i c' s' a' e' li, (calls h).calls p in_n, sections sh st h p in_n);
+  c_limbos = λ i c' s' a' e' li is. grind (arith, nat_tests, (calls h).c_limbos i c' s' a' e' li, (calls h).calls p in_n, sections sh st h p in_n);
+  c_frees = λ i c' s' a' e' li is st'. grind (arith, nat_tests, (calls h).c_frees i c' s' a' e' li, (calls h).calls p in_n, sections sh st h p in_n);
+  c_leaves = λ i c' s' li is. grind (arith, nat_tests, (calls h).c_leaves i c' s' li, (calls h).calls p in_n, sections sh st h p in_n);
+  c_apart = λ i c' s' a' e' li is nm. grind (arith, nat_tests, (calls h).c_apart i c' s' a' e' li, (calls h).calls p in_n, sections sh st h p in_n);
+  c_moved = λ i c' s' a' e' li is nm. grind (arith, nat_tests, (calls h).c_moved i c' s' a' e' li, (calls h).calls p in_n, sections sh st h p in_n);
+  c_ends = λ i c' s' t' li is. grind (arith, nat_tests, (calls h).c_ends i c' s' t' li, (calls h).calls p in_n, sections sh st h p in_n);
+  c_passed = λ i c' s' li is. grind (arith, nat_tests, (calls h).c_passed i c' s' li, (calls h).calls p in_n, sections sh st h p in_n);
+}
+
+-- kind 7
+pub advance : (sh : Layout) (st : S.State) (p : ℕ) (told : ℕ) → p < sh.passes → (st.stands p).section ≡ Outside → (st.stands p).phase ≡ phase.Idle → Shut sh st → Nothing sh st
+    → CallsAgree sh (did sh st p (Start call.Advance) Outside phase.Idle told (Load place.Epoch))
+advance sh st p told in_n at_sec at_call h _ = record {
+  calls = λ i li. grind (arith, nat_tests, (calls h).calls i li);
+  c_slot = λ i c' s' li is. grind (arith, nat_tests, (calls h).c_slot i c' s' li);
+  c_entry = λ i c' a' e' li is. grind (arith, nat_tests, (calls h).c_entry i c' a' e' li);
+  c_named = λ i c' s' a' e' li is. grind (arith, nat_tests, (calls h).c_named i c' s' a' e' li);
+  c_target = λ i c' s' li is. grind (arith, nat_tests, (calls h).c_target i c' s' li);
+  c_lives = λ i c' s' a' e' li is. grind (arith, nat_tests, (calls h).c_lives i c' s' a' e' li);
+  c_leads = λ i c' s' t' li is. grind (arith, nat_tests, (calls h).c_leads i c' s' t' li);
+  c_origin = λ i c' s' a' e' li is. grind (arith, nat_tests, (calls h).c_origin i c' s' a' e' li);
+  c_source = λ i c' s' a' e' li is. grind (arith, nat_tests, (calls h).c_source i c' s' a' e' li);
+  c_resting = λ i c' s' a' e' li is. grind (arith, nat_tests, (calls h).c_resting i c' s' a' e' li);
+  c_loose = λ i c' s' a' e' li is nm. grind (arith, nat_tests, (calls h).c_loose i c' s' a' e' li);
+  c_tries = λ i c' s' a' e' li is. grind (arith, nat_tests, (calls h).c_tries i c' s' a' e' li);
+  c_removes = λ i c' a' e' li is. grind (arith, nat_tests, (calls h).c_removes i c' a' e' li);
+  c_leaving = λ i c' s' a' e' li is. grind (arith, nat_tests, (calls h).c_leaving i c' s' a' e' li);
+  c_limbos = λ i c' s' a' e' li is. grind (arith, nat_tests, (calls h).c_limbos i c' s' a' e' li);
+  c_frees = λ i c' s' a' e' li is st'. grind (arith, nat_tests, (calls h).c_frees i c' s' a' e' li);
+  c_leaves = λ i c' s' li is. grind (arith, nat_tests, (calls h).c_leaves i c' s' li);
+  c_apart = λ i c' s' a' e' li is nm. grind (arith, nat_tests, (calls h).c_apart i c' s' a' e' li);
+  c_moved = λ i c' s' a' e' li is nm. grind (arith, nat_tests, (calls h).c_moved i c' s' a' e' li);
+  c_ends = λ i c' s' t' li is. grind (arith, nat_tests, (calls h).c_ends i c' s' t' li);
+  c_passed = λ i c' s' li is. grind (arith, nat_tests, (calls h).c_passed i c' s' li);
+}
+
+-- kind 8
+pub advancing : (sh : Layout) (st : S.State) (p : ℕ) (sec : Section) (z : ℕ) (k : ℕ) (told : ℕ) → p < sh.passes → (st.stands p).section ≡ sec → (st.stands p).phase ≡ phase.Advancing z k → Shut sh st → Nothing sh st
+    → CallsAgree sh (did sh st p Go sec (phase.Advancing z k) told (Load (place.Section k)))
+advancing sh st p sec z k told in_n at_sec at_call h _ = record {
+  calls = λ i li. grind (arith, nat_tests, (calls h).calls i li, (calls h).calls p in_n, sections sh st h p in_n);
+  c_slot = λ i c' s' li is. grind (arith, nat_tests, (calls h).c_slot i c' s' li, (calls h).calls p in_n, sections sh st h p in_n);
+  c_entry = λ i c' a' e' li is. grind (arith, nat_tests, (calls h).c_entry i c' a' e' li, (calls h).calls p in_n, sections sh st h p in_n);
+  c_named = λ i c' s' a' e' li is. grind (arith, nat_tests, (calls h).c_named i c' s' a' e' li, (calls h).calls p in_n, sections sh st h p in_n);
+  c_target = λ i c' s' li is. grind (arith, nat_tests, (calls h).c_target i c' s' li, (calls h).calls p in_n, sections sh st h p in_n);
+  c_lives = λ i c' s' a' e' li is. grind (arith, nat_tests, (calls h).c_lives i c' s' a' e' li, (calls h).calls p in_n, sections sh st h p in_n);
+  c_leads = λ i c' s' t' li is. grind (arith, nat_tests, (calls h).c_leads i c' s' t' li, (calls h).calls p in_n, sections sh st h p in_n);
+  c_origin = λ i c' s' a' e' li is. grind (arith, nat_tests, (calls h).c_origin i c' s' a' e' li, (calls h).calls p in_n, sections sh st h p in_n);
+  c_source = λ i c' s' a' e' li is. grind (arith, nat_tests, (calls h).c_source i c' s' a' e' li, (calls h).calls p in_n, sections sh st h p in_n);
+  c_resting = λ i c' s' a' e' li is. grind (arith, nat_tests, (calls h).c_resting i c' s' a' e' li, (calls h).calls p in_n, sections sh st h p in_n);
+  c_loose = λ i c' s' a' e' li is nm. grind (arith, nat_tests, (calls h).c_loose i c' s' a' e' li, (calls h).calls p in_n, sections sh st h p in_n);
+  c_tries = λ i c' s' a' e' li is. grind (arith, nat_tests, (calls h).c_tries i c' s' a' e' li, (calls h).calls p in_n, sections sh st h p in_n);
+  c_removes = λ i c' a' e' li is. grind (arith, nat_tests, (calls h).c_removes i c' a' e' li, (calls h).calls p in_n, sections sh st h p in_n);
+  c_leaving = λ i c' s' a' e' li is. grind (arith, nat_tests, (calls h).c_leaving i c' s' a' e' li, (calls h).calls p in_n, sections sh st h p in_n);
+  c_limbos = λ i c' s' a' e' li is. grind (arith, nat_tests, (calls h).c_limbos i c' s' a' e' li, (calls h).calls p in_n, sections sh st h p in_n);
+  c_frees = λ i c' s' a' e' li is st'. grind (arith, nat_tests, (calls h).c_frees i c' s' a' e' li, (calls h).calls p in_n, sections sh st h p in_n);
+  c_leaves = λ i c' s' li is. grind (arith, nat_tests, (calls h).c_leaves i c' s' li, (calls h).calls p in_n, sections sh st h p in_n);
+  c_apart = λ i c' s' a' e' li is nm. grind (arith, nat_tests, (calls h).c_apart i c' s' a' e' li, (calls h).calls p in_n, sections sh st h p in_n);
+  c_moved = λ i c' s' a' e' li is nm. grind (arith, nat_tests, (calls h).c_moved i c' s' a' e' li, (calls h).calls p in_n, sections sh st h p in_n);
+  c_ends = λ i c' s' t' li is. grind (arith, nat_tests, (calls h).c_ends i c' s' t' li, (calls h).calls p in_n, sections sh st h p in_n);
+  c_passed = λ i c' s' li is. grind (arith, nat_tests, (calls h).c_passed i c' s' li, (calls h).calls p in_n, sections sh st h p in_n);
+}
+
+-- kind 9
+pub ready : (sh : Layout) (st : S.State) (p : ℕ) (sec : Section) (z : ℕ) (told : ℕ) → p < sh.passes → (st.stands p).section ≡ sec → (st.stands p).phase ≡ phase.Ready z → Shut sh st → Nothing sh st
+    → CallsAgree sh (did sh st p Go sec (phase.Ready z) told (Exchange place.Epoch (word.Plain z) (word.Plain (z + 1))))
+ready sh st p sec z told in_n at_sec at_call h _ = record {
+  calls = λ i li. grind (arith, nat_tests, (calls h).calls i li, (calls h).calls p in_n, sections sh st h p in_n);
+  c_slot = λ i c' s' li is. grind (arith, nat_tests, (calls h).c_slot i c' s' li, (calls h).calls p in_n, sections sh st h p in_n);
+  c_entry = λ i c' a' e' li is. grind (arith, nat_tests, (calls h).c_entry i c' a' e' li, (calls h).calls p in_n, sections sh st h p in_n);
+  c_named = λ i c' s' a' e' li is. grind (arith, nat_tests, (calls h).c_named i c' s' a' e' li, (calls h).calls p in_n, sections sh st h p in_n);
+  c_target = λ i c' s' li is. grind (arith, nat_tests, (calls h).c_target i c' s' li, (calls h).calls p in_n, sections sh st h p in_n);
+  c_lives = λ i c' s' a' e' li is. grind (arith, nat_tests, (calls h).c_lives i c' s' a' e' li, (calls h).calls p in_n, sections sh st h p in_n);
+  c_leads = λ i c' s' t' li is. grind (arith, nat_tests, (calls h).c_leads i c' s' t' li, (calls h).calls p in_n, sections sh st h p in_n);
+  c_origin = λ i c' s' a' e' li is. grind (arith, nat_tests, (calls h).c_origin i c' s' a' e' li, (calls h).calls p in_n, sections sh st h p in_n);
+  c_source = λ i c' s' a' e' li is. grind (arith, nat_tests, (calls h).c_source i c' s' a' e' li, (calls h).calls p in_n, sections sh st h p in_n);
+  c_resting = λ i c' s' a' e' li is. grind (arith, nat_tests, (calls h).c_resting i c' s' a' e' li, (calls h).calls p in_n, sections sh st h p in_n);
+  c_loose = λ i c' s' a' e' li is nm. grind (arith, nat_tests, (calls h).c_loose i c' s' a' e' li, (calls h).calls p in_n, sections sh st h p in_n);
+  c_tries = λ i c' s' a' e' li is. grind (arith, nat_tests, (calls h).c_tries i c' s' a' e' li, (calls h).calls p in_n, sections sh st h p in_n);
+  c_removes = λ i c' a' e' li is. grind (arith, nat_tests, (calls h).c_removes i c' a' e' li, (calls h).calls p in_n, sections sh st h p in_n);
+  c_leaving = λ i c' s' a' e' li is. grind (arith, nat_tests, (calls h).c_leaving i c' s' a' e' li, (calls h).calls p in_n, sections sh st h p in_n);
+  c_limbos = λ i c' s' a' e' li is. grind (arith, nat_tests, (calls h).c_limbos i c' s' a' e' li, (calls h).calls p in_n, sections sh st h p in_n);
+  c_frees = λ i c' s' a' e' li is st'. grind (arith, nat_tests, (calls h).c_frees i c' s' a' e' li, (calls h).calls p in_n, sections sh st h p in_n);
+  c_leaves = λ i c' s' li is. grind (arith, nat_tests, (calls h).c_leaves i c' s' li, (calls h).calls p in_n, sections sh st h p in_n);
+  c_apart = λ i c' s' a' e' li is nm. grind (arith, nat_tests, (calls h).c_apart i c' s' a' e' li, (calls h).calls p in_n, sections sh st h p in_n);
+  c_moved = λ i c' s' a' e' li is nm. grind (arith, nat_tests, (calls h).c_moved i c' s' a' e' li, (calls h).calls p in_n, sections sh st h p in_n);
+  c_ends = λ i c' s' t' li is. grind (arith, nat_tests, (calls h).c_ends i c' s' t' li, (calls h).calls p in_n, sections sh st h p in_n);
+  c_passed = λ i c' s' li is. grind (arith, nat_tests, (calls h).c_passed i c' s' li, (calls h).calls p in_n, sections sh st h p in_n);
+}
+
+-- kind 1
+pub note : (sh : Layout) (st : S.State) (p : ℕ) (told : ℕ) → p < sh.passes → (st.stands p).section ≡ Outside → (st.stands p).phase ≡ phase.Idle → Shut sh st → Nothing sh st
+    → CallsAgree sh (did sh st p (Start call.Note) Outside phase.Idle told (Load place.Epoch))
+note sh st p told in_n at_sec at_call h _ = record {
+  calls = λ i li. grind (arith, nat_tests, (calls h).calls i li);
+  c_slot = λ i c' s' li is. grind (arith, nat_tests, (calls h).c_slot i c' s' li);
+  c_entry = λ i c' a' e' li is. grind (arith, nat_tests, (calls h).c_entry i c' a' e' li);
+  c_named = λ i c' s' a' e' li is. grind (arith, nat_tests, (calls h).c_named i c' s' a' e' li);
+  c_target = λ i c' s' li is. grind (arith, nat_tests, (calls h).c_target i c' s' li);
+  c_lives = λ i c' s' a' e' li is. grind (arith, nat_tests, (calls h).c_lives i c' s' a' e' li);
+  c_leads = λ i c' s' t' li is. grind (arith, nat_tests, (calls h).c_leads i c' s' t' li);
+  c_origin = λ i c' s' a' e' li is. grind (arith, nat_tests, (calls h).c_origin i c' s' a' e' li);
+  c_source = λ i c' s' a' e' li is. grind (arith, nat_tests, (calls h).c_source i c' s' a' e' li);
+  c_resting = λ i c' s' a' e' li is. grind (arith, nat_tests, (calls h).c_resting i c' s' a' e' li);
+  c_loose = λ i c' s' a' e' li is nm. grind (arith, nat_tests, (calls h).c_loose i c' s' a' e' li);
+  c_tries = λ i c' s' a' e' li is. grind (arith, nat_tests, (calls h).c_tries i c' s' a' e' li);
+  c_removes = λ i c' a' e' li is. grind (arith, nat_tests, (calls h).c_removes i c' a' e' li);
+  c_leaving = λ i c' s' a' e' li is. grind (arith, nat_tests, (calls h).c_leaving i c' s' a' e' li);
+  c_limbos = λ i c' s' a' e' li is. grind (arith, nat_tests, (calls h).c_limbos i c' s' a' e' li);
+  c_frees = λ i c' s' a' e' li is st'. grind (arith, nat_tests, (calls h).c_frees i c' s' a' e' li);
+  c_leaves = λ i c' s' li is. grind (arith, nat_tests, (calls h).c_leaves i c' s' li);
+  c_apart = λ i c' s' a' e' li is nm. grind (arith, nat_tests, (calls h).c_apart i c' s' a' e' li);
+  c_moved = λ i c' s' a' e' li is nm. grind (arith, nat_tests, (calls h).c_moved i c' s' a' e' li);
+  c_ends = λ i c' s' t' li is. grind (arith, nat_tests, (calls h).c_ends i c' s' t' li);
+  c_passed = λ i c' s' li is. grind (arith, nat_tests, (calls h).c_passed i c' s' li);
+}
+
+-- kind 1
+pub learn : (sh : Layout) (st : S.State) (p : ℕ) (k : ℕ) (z : ℕ) (told : ℕ) → p < sh.passes → (st.stands p).section ≡ Outside → (st.stands p).phase ≡ phase.Idle → Shut sh st → Nothing sh st
+    → CallsAgree sh (did sh st p (Start (call.Learn k z)) Outside phase.Idle told (Load place.Epoch))
+learn sh st p k z told in_n at_sec at_call h _ = record {
+  calls = λ i li. grind (arith, nat_tests, (calls h).calls i li);
+  c_slot = λ i c' s' li is. grind (arith, nat_tests, (calls h).c_slot i c' s' li);
+  c_entry = λ i c' a' e' li is. grind (arith, nat_tests, (calls h).c_entry i c' a' e' li);
+  c_named = λ i c' s' a' e' li is. grind (arith, nat_tests, (calls h).c_named i c' s' a' e' li);
+  c_target = λ i c' s' li is. grind (arith, nat_tests, (calls h).c_target i c' s' li);
+  c_lives = λ i c' s' a' e' li is. grind (arith, nat_tests, (calls h).c_lives i c' s' a' e' li);
+  c_leads = λ i c' s' t' li is. grind (arith, nat_tests, (calls h).c_leads i c' s' t' li);
+  c_origin = λ i c' s' a' e' li is. grind (arith, nat_tests, (calls h).c_origin i c' s' a' e' li);
+  c_source = λ i c' s' a' e' li is. grind (arith, nat_tests, (calls h).c_source i c' s' a' e' li);
+  c_resting = λ i c' s' a' e' li is. grind (arith, nat_tests, (calls h).c_resting i c' s' a' e' li);
+  c_loose = λ i c' s' a' e' li is nm. grind (arith, nat_tests, (calls h).c_loose i c' s' a' e' li);
+  c_tries = λ i c' s' a' e' li is. grind (arith, nat_tests, (calls h).c_tries i c' s' a' e' li);
+  c_removes = λ i c' a' e' li is. grind (arith, nat_tests, (calls h).c_removes i c' a' e' li);
+  c_leaving = λ i c' s' a' e' li is. grind (arith, nat_tests, (calls h).c_leaving i c' s' a' e' li);
+  c_limbos = λ i c' s' a' e' li is. grind (arith, nat_tests, (calls h).c_limbos i c' s' a' e' li);
+  c_frees = λ i c' s' a' e' li is st'. grind (arith, nat_tests, (calls h).c_frees i c' s' a' e' li);
+  c_leaves = λ i c' s' li is. grind (arith, nat_tests, (calls h).c_leaves i c' s' li);
+  c_apart = λ i c' s' a' e' li is nm. grind (arith, nat_tests, (calls h).c_apart i c' s' a' e' li);
+  c_moved = λ i c' s' a' e' li is nm. grind (arith, nat_tests, (calls h).c_moved i c' s' a' e' li);
+  c_ends = λ i c' s' t' li is. grind (arith, nat_tests, (calls h).c_ends i c' s' t' li);
+  c_passed = λ i c' s' li is. grind (arith, nat_tests, (calls h).c_passed i c' s' li);
+}

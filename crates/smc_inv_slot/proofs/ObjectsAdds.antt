@@ -1,0 +1,143 @@
+-- Steps keep the agreement: objects, adds. Written by tools/laws.py.
+use Rattle.std.proofs.Common.{◌≡◌, ℕ, ◌+◌, ◌<◌, Bool, true, Some, List, slice_index, arith}
+use Rattle.std.proofs.lemmas.Bool.Decides.{nat_tests}
+use Rattle.smc_words.specs.declared.dir.Dir.{Dir}
+use Rattle.smc_words.specs.declared.dir.Dir.TheVariants as dir
+use Rattle.smc_shape.specs.Layout.{Layout}
+use Rattle.smc_shape.specs.declared.place.Place.TheVariants as place
+use Rattle.smc_core.specs.declared.call.Call.TheVariants as call
+use Rattle.smc_core.specs.declared.call.Choice.TheVariants.{Start, Go}
+use Rattle.smc_core.specs.declared.op.Op.TheVariants.{Load, Store, Exchange}
+use Rattle.smc_core.specs.declared.phase.Phase.TheVariants as phase
+use Rattle.smc_core.specs.declared.phase.objects.AddPhase.TheVariants as add
+use Rattle.smc_core.specs.declared.section.Section.TheVariants.{Inside}
+use Rattle.smc_core.specs.declared.word.State.TheVariants as state
+use Rattle.smc_core.specs.declared.word.Word.TheVariants as word
+use Rattle.smc_core.specs.Add.{takes}
+use Rattle.smc_rules.specs.Reads.{object}
+use Rattle.smc_rules.specs.State as S
+use Rattle.smc_rules.specs.State.{put_stand}
+use Rattle.smc_agreement.specs.Kept.{Nothing}
+use Rattle.smc_agreement.specs.Agreement.{ObjectsAgree}
+use Rattle.smc_agreement.proofs.Whole.{Shut, calls, objects, did, sections}
+use Rattle.smc_agreement.proofs.CrossLaws.{not_claimed}
+
+-- kind 10
+pub starts_add : (sh : Layout) (st : S.State) (p : ℕ) (x : ℕ) (calm : Bool) (c : ℕ) (k : ℕ) (ws : List ℕ) (told : ℕ) → p < sh.passes → (st.stands p).section ≡ Inside x calm → (st.stands p).phase ≡ phase.Idle → takes sh c k ws ≡ true → Shut sh st → Nothing sh st
+    → ObjectsAgree sh (did sh st p (Start (call.Add c k ws)) (Inside x calm) phase.Idle told (Load (place.Directory c k)))
+starts_add sh st p x calm c k ws told in_n at_sec at_call pre1 h _ = record {
+  standing = (objects h).standing;
+  placed = (objects h).placed;
+  held = λ i c' a' e' s' li is. grind (arith, nat_tests, (objects h).held i c' a' e' s' li, (calls h).calls p in_n, sections sh st h p in_n);
+  one_held = λ i j c' a' e' s' t' li lj hi hj. grind (arith, nat_tests, (objects h).one_held i j c' a' e' s' t' li lj, (calls h).calls p in_n, sections sh st h p in_n);
+  stamp_dir = (objects h).stamp_dir;
+  stamp_entry = (objects h).stamp_entry;
+}
+
+-- kind 10
+pub find_slot : (sh : Layout) (st : S.State) (p : ℕ) (x : ℕ) (calm : Bool) (c : ℕ) (k : ℕ) (s : ℕ) (t : ℕ) (told : ℕ) → p < sh.passes → (st.stands p).section ≡ Inside x calm → (st.stands p).phase ≡ phase.Add (add.FindSlot c k s t) → Shut sh st → Nothing sh st
+    → ObjectsAgree sh (did sh st p Go (Inside x calm) (phase.Add (add.FindSlot c k s t)) told (Load (place.Directory c s)))
+find_slot sh st p x calm c k s t told in_n at_sec at_call h _ = record {
+  standing = (objects h).standing;
+  placed = (objects h).placed;
+  held = λ i c' a' e' s' li is. grind (arith, nat_tests, (objects h).held i c' a' e' s' li, (calls h).calls p in_n, sections sh st h p in_n);
+  one_held = λ i j c' a' e' s' t' li lj hi hj. grind (arith, nat_tests, (objects h).one_held i j c' a' e' s' t' li lj, (calls h).calls p in_n, sections sh st h p in_n);
+  stamp_dir = (objects h).stamp_dir;
+  stamp_entry = (objects h).stamp_entry;
+}
+
+-- kind 11
+pub claim_slot : (sh : Layout) (st : S.State) (p : ℕ) (x : ℕ) (calm : Bool) (c : ℕ) (k : ℕ) (s : ℕ) (t : ℕ) (d : Dir) (told : ℕ) → p < sh.passes → (st.stands p).section ≡ Inside x calm → (st.stands p).phase ≡ phase.Add (add.ClaimSlot c k s t d) → Shut sh st → Nothing sh st
+    → ObjectsAgree sh (did sh st p Go (Inside x calm) (phase.Add (add.ClaimSlot c k s t d)) told (Exchange (place.Directory c s) (word.Directory d) (word.Directory dir.Claimed)))
+claim_slot sh st p x calm c k s t d told in_n at_sec at_call h _ = record {
+  standing = (objects h).standing;
+  placed = λ c' a' e' s' is. grind (arith, nat_tests, (objects h).placed c' a' e' s', (calls h).calls p in_n, sections sh st h p in_n);
+  held = λ i c' a' e' s' li is. grind (arith, nat_tests, (objects h).held i c' a' e' s' li, (calls h).calls p in_n, sections sh st h p in_n, sections sh st h i li);
+  one_held = λ i j c' a' e' s' t' li lj hi hj. grind (arith, nat_tests, (objects h).one_held i j c' a' e' s' t' li lj, (calls h).calls p in_n, sections sh st h p in_n);
+  stamp_dir = λ c' s' z' is. grind (arith, nat_tests, (objects h).stamp_dir c' s' z', (calls h).calls p in_n, sections sh st h p in_n);
+  stamp_entry = (objects h).stamp_entry;
+}
+
+-- kind 13
+pub find_entry : (sh : Layout) (st : S.State) (p : ℕ) (x : ℕ) (calm : Bool) (c : ℕ) (s : ℕ) (e : ℕ) (t : ℕ) (told : ℕ) → p < sh.passes → (st.stands p).section ≡ Inside x calm → (st.stands p).phase ≡ phase.Add (add.FindEntry c s e t) → Shut sh st → Nothing sh st
+    → ObjectsAgree sh (did sh st p Go (Inside x calm) (phase.Add (add.FindEntry c s e t)) told (Load (place.Entry c e)))
+find_entry sh st p x calm c s e t told in_n at_sec at_call h _ = record {
+  standing = (objects h).standing;
+  placed = (objects h).placed;
+  held = λ i c' a' e' s' li is. grind (arith, nat_tests, (objects h).held i c' a' e' s' li, (calls h).c_slot p c s in_n, (calls h).calls p in_n, sections sh st h p in_n);
+  one_held = λ i j c' a' e' s' t' li lj hi hj. grind (arith, nat_tests, (objects h).one_held i j c' a' e' s' t' li lj, (calls h).c_slot p c s in_n, (calls h).calls p in_n, sections sh st h p in_n);
+  stamp_dir = (objects h).stamp_dir;
+  stamp_entry = (objects h).stamp_entry;
+}
+
+-- kind 14
+pub claim_entry : (sh : Layout) (st : S.State) (p : ℕ) (x : ℕ) (calm : Bool) (c : ℕ) (s : ℕ) (e : ℕ) (t : ℕ) (a : ℕ) (z : ℕ) (told : ℕ) → p < sh.passes → (st.stands p).section ≡ Inside x calm → (st.stands p).phase ≡ phase.Add (add.ClaimEntry c s e t a z) → Shut sh st → Nothing sh st
+    → ObjectsAgree sh (did sh st p Go (Inside x calm) (phase.Add (add.ClaimEntry c s e t a z)) told (Exchange (place.Entry c e) (word.Entry (state.Free a z)) (word.Entry (state.Claimed (a + 1)))))
+claim_entry sh st p x calm c s e t a z told in_n at_sec at_call h _ = record {
+  standing = λ c' a' e' s' is. grind (arith, nat_tests, (objects h).standing c' a' e' s', (calls h).c_slot p c s in_n, (calls h).calls p in_n, sections sh st h p in_n);
+  placed = λ c' a' e' s' is. grind (arith, nat_tests, (objects h).placed c' a' e' s', (calls h).c_slot p c s in_n, (calls h).calls p in_n, sections sh st h p in_n);
+  held = λ i c' a' e' s' li is. grind (arith, nat_tests, (objects h).held i c' a' e' s' li, (calls h).c_slot p c s in_n, (calls h).calls p in_n, sections sh st h p in_n, sections sh st h i li);
+  one_held = λ i j c' a' e' s' t' li lj hi hj. grind (arith, nat_tests, (objects h).one_held i j c' a' e' s' t' li lj, (calls h).c_slot p c s in_n, (calls h).calls p in_n, sections sh st h p in_n);
+  stamp_dir = (objects h).stamp_dir;
+  stamp_entry = λ c' e' a' z' is. grind (arith, nat_tests, (objects h).stamp_entry c' e' a' z', (calls h).c_slot p c s in_n, (calls h).calls p in_n, sections sh st h p in_n);
+}
+
+-- kind 12
+pub drop_slot : (sh : Layout) (st : S.State) (p : ℕ) (x : ℕ) (calm : Bool) (c : ℕ) (s : ℕ) (told : ℕ) → p < sh.passes → (st.stands p).section ≡ Inside x calm → (st.stands p).phase ≡ phase.Add (add.DropSlot c s) → Shut sh st → Nothing sh st
+    → ObjectsAgree sh (did sh st p Go (Inside x calm) (phase.Add (add.DropSlot c s)) told (Store (place.Directory c s) (word.Directory dir.Free)))
+drop_slot sh st p x calm c s told in_n at_sec at_call h _ = record {
+  standing = (objects h).standing;
+  placed = λ c' a' e' s' is. grind (arith, nat_tests, (objects h).placed c' a' e' s', (calls h).c_slot p c s in_n, (calls h).calls p in_n, sections sh st h p in_n);
+  held = λ i c' a' e' s' li is. grind (arith, nat_tests, (objects h).held i c' a' e' s' li, (calls h).c_slot p c s in_n, (calls h).calls p in_n, sections sh st h p in_n);
+  one_held = λ i j c' a' e' s' t' li lj hi hj. grind (arith, nat_tests, (objects h).one_held i j c' a' e' s' t' li lj, (calls h).c_slot p c s in_n, (calls h).calls p in_n, sections sh st h p in_n);
+  stamp_dir = λ c' s' z' is. grind (arith, nat_tests, (objects h).stamp_dir c' s' z', (calls h).c_slot p c s in_n, (calls h).calls p in_n, sections sh st h p in_n);
+  stamp_entry = (objects h).stamp_entry;
+}
+
+-- kind 15
+pub store_back : (sh : Layout) (st : S.State) (p : ℕ) (x : ℕ) (calm : Bool) (c : ℕ) (s : ℕ) (a : ℕ) (e : ℕ) (told : ℕ) → p < sh.passes → (st.stands p).section ≡ Inside x calm → (st.stands p).phase ≡ phase.Add (add.StoreBack s (object a e c)) → Shut sh st → Nothing sh st
+    → ObjectsAgree sh (did sh st p Go (Inside x calm) (phase.Add (add.StoreBack s (object a e c))) told (Store (place.Back c s) (word.Back (Some (object a e c)))))
+store_back sh st p x calm c s a e told in_n at_sec at_call h _ = record {
+  standing = λ c' a' e' s' is. grind (arith, nat_tests, (objects h).standing c' a' e' s', (calls h).c_slot p c s in_n, (calls h).c_entry p c a e in_n, (calls h).calls p in_n, sections sh st h p in_n, not_claimed sh st h c' a' e' s');
+  placed = (objects h).placed;
+  held = λ i c' a' e' s' li is. grind (arith, nat_tests, (objects h).held i c' a' e' s' li, (calls h).c_slot p c s in_n, (calls h).c_entry p c a e in_n, (calls h).calls p in_n, sections sh st h p in_n);
+  one_held = λ i j c' a' e' s' t' li lj hi hj. grind (arith, nat_tests, (objects h).one_held i j c' a' e' s' t' li lj, (calls h).c_slot p c s in_n, (calls h).c_entry p c a e in_n, (calls h).calls p in_n, sections sh st h p in_n);
+  stamp_dir = (objects h).stamp_dir;
+  stamp_entry = (objects h).stamp_entry;
+}
+
+-- kind 16
+pub store_field : (sh : Layout) (st : S.State) (p : ℕ) (x : ℕ) (calm : Bool) (c : ℕ) (s : ℕ) (a : ℕ) (e : ℕ) (f : ℕ) (told : ℕ) → p < sh.passes → (st.stands p).section ≡ Inside x calm → (st.stands p).phase ≡ phase.Add (add.StoreField s (object a e c) f) → Shut sh st → Nothing sh st
+    → ObjectsAgree sh (did sh st p Go (Inside x calm) (phase.Add (add.StoreField s (object a e c) f)) told (Store (place.Field c s f) (word.Plain (slice_index (st.stands p).words f))))
+store_field sh st p x calm c s a e f told in_n at_sec at_call h _ = record {
+  standing = (objects h).standing;
+  placed = (objects h).placed;
+  held = λ i c' a' e' s' li is. grind (arith, nat_tests, (objects h).held i c' a' e' s' li, (calls h).c_slot p c s in_n, (calls h).c_entry p c a e in_n, (calls h).c_named p c s a e in_n, (calls h).calls p in_n, sections sh st h p in_n);
+  one_held = λ i j c' a' e' s' t' li lj hi hj. grind (arith, nat_tests, (objects h).one_held i j c' a' e' s' t' li lj, (calls h).c_slot p c s in_n, (calls h).c_entry p c a e in_n, (calls h).c_named p c s a e in_n, (calls h).calls p in_n, sections sh st h p in_n);
+  stamp_dir = (objects h).stamp_dir;
+  stamp_entry = (objects h).stamp_entry;
+}
+
+-- kind 17
+pub store_valid : (sh : Layout) (st : S.State) (p : ℕ) (x : ℕ) (calm : Bool) (c : ℕ) (s : ℕ) (a : ℕ) (e : ℕ) (told : ℕ) → p < sh.passes → (st.stands p).section ≡ Inside x calm → (st.stands p).phase ≡ phase.Add (add.StoreValid s (object a e c)) → Shut sh st → Nothing sh st
+    → ObjectsAgree sh (did sh st p Go (Inside x calm) (phase.Add (add.StoreValid s (object a e c))) told (Store (place.Directory c s) (word.Directory dir.Valid)))
+store_valid sh st p x calm c s a e told in_n at_sec at_call h _ = record {
+  standing = (objects h).standing;
+  placed = λ c' a' e' s' is. grind (arith, nat_tests, (objects h).placed c' a' e' s', (calls h).c_slot p c s in_n, (calls h).c_entry p c a e in_n, (calls h).c_named p c s a e in_n, (calls h).calls p in_n, sections sh st h p in_n);
+  held = λ i c' a' e' s' li is. grind (arith, nat_tests, (objects h).held i c' a' e' s' li, (calls h).c_slot p c s in_n, (calls h).c_entry p c a e in_n, (calls h).c_named p c s a e in_n, (calls h).calls p in_n, sections sh st h p in_n);
+  one_held = λ i j c' a' e' s' t' li lj hi hj. grind (arith, nat_tests, (objects h).one_held i j c' a' e' s' t' li lj, (calls h).c_slot p c s in_n, (calls h).c_entry p c a e in_n, (calls h).c_named p c s a e in_n, (calls h).calls p in_n, sections sh st h p in_n);
+  stamp_dir = λ c' s' z' is. grind (arith, nat_tests, (objects h).stamp_dir c' s' z', (calls h).c_slot p c s in_n, (calls h).c_entry p c a e in_n, (calls h).c_named p c s a e in_n, (calls h).calls p in_n, sections sh st h p in_n);
+  stamp_entry = (objects h).stamp_entry;
+}
+
+-- kind 18
+pub store_live : (sh : Layout) (st : S.State) (p : ℕ) (x : ℕ) (calm : Bool) (c : ℕ) (s : ℕ) (a : ℕ) (e : ℕ) (told : ℕ) → p < sh.passes → (st.stands p).section ≡ Inside x calm → (st.stands p).phase ≡ phase.Add (add.StoreLive s (object a e c)) → Shut sh st → Nothing sh st
+    → ObjectsAgree sh (did sh st p Go (Inside x calm) (phase.Add (add.StoreLive s (object a e c))) told (Store (place.Entry c e) (word.Entry (state.Present a s))))
+store_live sh st p x calm c s a e told in_n at_sec at_call h _ = record {
+  standing = λ c' a' e' s' is. grind (arith, nat_tests, (objects h).standing c' a' e' s', (calls h).c_entry p c a e in_n, (calls h).c_named p c s a e in_n, (calls h).c_lives p c s a e in_n, (calls h).calls p in_n, sections sh st h p in_n);
+  placed = λ c' a' e' s' is. grind (arith, nat_tests, (objects h).placed c' a' e' s', (calls h).c_entry p c a e in_n, (calls h).c_named p c s a e in_n, (calls h).c_lives p c s a e in_n, (calls h).calls p in_n, sections sh st h p in_n);
+  held = λ i c' a' e' s' li is. grind (arith, nat_tests, (objects h).held i c' a' e' s' li, (calls h).c_entry p c a e in_n, (calls h).c_named p c s a e in_n, (calls h).c_lives p c s a e in_n, (calls h).calls p in_n, sections sh st h p in_n);
+  one_held = λ i j c' a' e' s' t' li lj hi hj. grind (arith, nat_tests, (objects h).one_held i j c' a' e' s' t' li lj, (calls h).c_entry p c a e in_n, (calls h).c_named p c s a e in_n, (calls h).c_lives p c s a e in_n, (calls h).calls p in_n, sections sh st h p in_n);
+  stamp_dir = (objects h).stamp_dir;
+  stamp_entry = λ c' e' a' z' is. grind (arith, nat_tests, (objects h).stamp_entry c' e' a' z', (calls h).c_entry p c a e in_n, (calls h).c_named p c s a e in_n, (calls h).c_lives p c s a e in_n, (calls h).calls p in_n, sections sh st h p in_n);
+}

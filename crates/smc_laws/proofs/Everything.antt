@@ -1,0 +1,88 @@
+-- All parts together, kept by each step, and so after every list of steps.
+use Rattle.std.proofs.Common.{◌≡◌, ℕ, ◌<◌, List, Some, refl, sym, subst}
+use Rattle.smc_shape.specs.Layout.{Layout, IsShape}
+use Rattle.smc_core.specs.declared.call.Choice.{Choice}
+use Rattle.smc_core.specs.declared.local.Local.{Local}
+use Rattle.smc_core.specs.declared.local.Opening.{Opening}
+use Rattle.smc_core.specs.declared.op.Offer.{Offer}
+use Rattle.smc_core.specs.declared.word.Word.{Word}
+use Rattle.smc_core.specs.Machine.{IsOpening, IsOpened, Reach}
+use Rattle.smc_rules.specs.Memory.{seen}
+use Rattle.smc_rules.specs.Mirror.{anywhere}
+use Rattle.smc_rules.specs.State.{State, IsKept, Backed, stand_offer, state_after, first_state}
+use Rattle.smc_rules.proofs.CarryLaws.{carried}
+use Rattle.smc_inv_epoch.proofs.RoundLaws.{rounds-kept, rounds-first}
+use Rattle.smc_inv_range.proofs.ReachLaws.{ranges_kept}
+use Rattle.smc_inv_range.proofs.StepLaws.{suits_first, first_in}
+use Rattle.smc_agreement.specs.Agreement.{CallsAgree, CopiesAgree, ClaimsAgree, ObjectsAgree, MovesAgree}
+use Rattle.smc_agreement.specs.Kept.{Agrees, Nothing}
+use Rattle.smc_agreement.specs.Records.{RecordsAgree}
+use Rattle.smc_agreement.proofs.Begun.{agreement-first, records-first}
+use Rattle.smc_agreement.proofs.EachKind.{EachKind, each_step}
+use Rattle.smc_agreement.proofs.Whole.{Shut, shut}
+use Rattle.smc_inv_move.proofs.EachCalls.{calls-each}
+use Rattle.smc_inv_move.proofs.EachCopies.{copies-each}
+use Rattle.smc_inv_move.proofs.EachMoves.{moves-each}
+use Rattle.smc_inv_scan.specs.Scans.{ScansAgree}
+use Rattle.smc_inv_scan.proofs.StepLaws.{scans_kept}
+use Rattle.smc_inv_scan.proofs.Targets.{first_scans}
+use Rattle.smc_inv_slot.proofs.EachClaims.{claims-each}
+use Rattle.smc_inv_slot.proofs.EachObjects.{objects-each}
+use Rattle.smc_inv_slot.proofs.EachRecords.{records-each}
+
+-- the ranges, the epoch rule with the round word's, and the agreement, of words, calls, fields, records and scans
+pub record Everything (opening : Opening) (shape : Layout) (s : State) : Type 0 where
+  pub whole : Agrees shape s
+  pub records : RecordsAgree opening.incarnation shape s
+  pub scans : ScansAgree shape s
+
+module _ (opening : Opening) (shape : Layout) (valid : IsShape shape) where
+  module _ (s : State) (h : Everything opening shape s) (pass : ℕ) (within : pass < shape.passes) (choice : Choice) (o : Offer) (told : ℕ)
+      (offers : stand_offer shape pass (s.stands pass) choice ≡ Some o) where
+    closed : Shut shape s
+    closed = shut h.whole
+
+    -- the state after the step
+    abbrev after : State
+    after = state_after shape s pass choice told o.op (seen o.op s.memory)
+
+    -- a part that is kept by each kind of step
+    part : (P : Layout → State → Type 0) → EachKind Nothing P → P shape after
+    part P each = each_step Nothing P each shape s closed tt pass within choice o told offers
+
+    everything_after : Everything opening shape after
+    everything_after = record {
+      whole = record {
+        ranges = (ranges_kept shape valid).kept s pass choice o told (seen o.op s.memory) within h.whole.ranges offers (λ u. refl);
+        rounds = (rounds-kept shape valid).kept s pass choice o told (seen o.op s.memory) within h.whole.rounds offers (λ u. refl);
+        agrees = record {
+          calls = part CallsAgree calls-each;
+          copies = part CopiesAgree copies-each;
+          claims = part ClaimsAgree claims-each;
+          objects = part ObjectsAgree objects-each;
+          moves = part MovesAgree moves-each;
+        };
+      };
+      records = each_step (RecordsAgree opening.incarnation) (RecordsAgree opening.incarnation) (records-each opening.incarnation) shape s closed h.records pass within choice o told offers;
+      scans = scans_kept shape s pass choice o told within h.whole.ranges h.whole.rounds h.whole.agrees h.scans offers;
+    }
+
+  pub everything-kept : IsKept shape anywhere (Everything opening shape)
+  everything-kept = record {
+    fits = λ s pass choice o within h offers there. (ranges_kept shape valid).fits s pass choice o within h.whole.ranges offers there;
+    kept = λ s pass choice o told w within h offers shows.
+        subst (λ (v : Word). Everything opening shape (state_after shape s pass choice told o.op v)) (sym (shows refl)) (everything_after s h pass within choice o told offers);
+  }
+
+  pub everything-first : IsOpening opening → Everything opening shape (first_state shape opening)
+  everything-first opens = record {
+    whole = record { ranges = first_in shape valid opening opens; rounds = rounds-first shape valid opening opens; agrees = agreement-first shape opening };
+    records = records-first shape opening;
+    scans = first_scans shape opening;
+  }
+
+  -- after every list of steps
+  pub everything-reached : (start row : List ℕ) (locals : List Local) → IsOpening opening → IsOpened shape opening start → Reach shape start row locals
+      → Backed shape anywhere (Everything opening shape) row locals
+  everything-reached start row locals opens opened reached =
+      carried shape anywhere valid (Everything opening shape) everything-kept opening start row locals (λ there u. suits_first shape valid opening opens there) (everything-first opens) opened reached
