@@ -1,0 +1,31 @@
+-- The one order of what happened: the events of a list of steps, in the order of the steps.
+use Rattle.std.specs.Prelude.{ℕ, List, map}
+use Rattle.smc_shape.specs.Layout.{Layout, IsShape}
+use Rattle.smc_model.specs.declared.event.Event.{Event}
+use Rattle.smc_model.specs.Order.{OneOrder, events_of}
+use Rattle.smc_model.specs.World.{empty_world, Replay}
+use Rattle.smc_core.specs.declared.local.Local.{Local}
+use Rattle.smc_core.specs.declared.local.Opening.{Opening}
+use Rattle.smc_core.specs.Machine.{IsOpening, IsOpened, Reach}
+use Rattle.smc_rules.specs.Mirror.{anywhere}
+use Rattle.smc_rules.specs.State.{State, Backs}
+use Rattle.smc_rules.specs.SlotRule.{SlotRule}
+
+-- the logs of the passes
+abbrev pub logs_of : List Local → List (List Event)
+logs_of locals = map (λ l. l.log) locals
+
+-- the logs have one order, and it replays from the empty world to the world of this state, which stands behind the row
+pub record HasOrder (shape : Layout) (opening : Opening) (row : List ℕ) (locals : List Local) : Type 0 where
+  pub state : State
+  pub backs : Backs shape anywhere row locals state
+  pub slots : SlotRule shape opening state
+  pub order : List (ℕ × Event)
+  pub one_order : OneOrder (logs_of locals) order
+  pub replay : Replay empty_world (events_of order) state.world
+
+-- so it is in every state that lists of steps lead to, from a region without objects
+abbrev pub LogsHaveOneOrder : Type 0
+LogsHaveOneOrder = (shape : Layout) (opening : Opening) (start row : List ℕ) (locals : List Local)
+    → IsShape shape → IsOpening opening → IsOpened shape opening start → Reach shape start row locals
+    → HasOrder shape opening row locals
