@@ -1,6 +1,4 @@
 -- The relocation rule: what becomes of objects that a round moves, and of those who read them meanwhile.
---
--- Proved after every list of steps are `CalmBound` and `NamesOwner`; the rest is the definition alone.
 use Rattle.std.specs.Prelude.{◌≡◌, ◌≢◌, ◌⊎◌, ℕ, ◌+◌, ◌<◌, ◌≤◌, ⊤, true, IsTrue, IsFalse, Option, Some, None, Contains}
 use Rattle.smc_words.specs.declared.dir.Dir.{Dir}
 use Rattle.smc_words.specs.declared.dir.Dir.TheVariants as dir

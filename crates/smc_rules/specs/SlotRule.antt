@@ -1,6 +1,4 @@
 -- The slot rule: who owns each slot and entry, and which objects are where.
---
--- The definition alone: that it holds after every list of steps is not yet proved.
 use Rattle.std.specs.Prelude.{◌≡◌, ◌↔◌, ◌⊎◌, ℕ, ◌+◌, ◌<◌, ◌≤◌, ⊤, IsTrue, IsSome, Some, None, List, slice_index}
 use Rattle.smc_words.specs.declared.dir.Dir.TheVariants as dir
 use Rattle.smc_words.specs.declared.number.Number.{Number}

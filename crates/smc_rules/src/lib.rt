@@ -4,9 +4,9 @@
 //! and `Reads`: what it says), when the row of numbers mirrors it (`Mirror`), and the states that rules speak of, with
 //! what a step makes of them (`State`). The rules themselves stand in `EpochRule`, `SlotRule` and `RelocationRule`, over
 //! `Calls`: what a call in progress has claimed, owes and copies. A reader has to believe these three and nothing else;
-//! `EpochAgreement` and `RoundAgreement` are there for the proof alone. A crate above proves that each step keeps a rule (`IsKept`), and has
-//! from `proofs/CarryLaws` that it holds in every state of `Reach`. Today that is `smc_inv_epoch`, for the epoch rule
-//! and what the round word tells; the rest of the other two rules no law carries yet, beyond the first state.
+//! `EpochAgreement` and `RoundAgreement` are there for the proof alone. A crate above proves that each step keeps a
+//! rule (`IsKept`), and has from `proofs/CarryLaws` that it holds in every state of `Reach`: `smc_inv_epoch` for the
+//! epoch rule and the round word, `smc_laws` for all three.
 #![tactic(auto)]
 
 pub mod laws;
