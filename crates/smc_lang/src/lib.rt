@@ -13,15 +13,15 @@
 mod fault;
 pub mod laws;
 mod limits;
-mod text;
 mod place;
-
-
+#[cfg(test)]
+mod tests;
+mod text;
 
 pub use fault::ParseFault;
 pub use limits::MAX_TEXT;
-pub use text::{parse, parse_cond, parse_edit};
 pub use smc_query::{
     Cond, Expr, Item, ItemCall, Items, Names, Op, Path, Paths, Query, SortKey, SortKeys,
 };
 pub use smc_tokens::{Name, Quoted};
+pub use text::{parse, parse_cond, parse_edit};
