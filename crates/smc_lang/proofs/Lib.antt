@@ -1,2 +1,3 @@
 mod PlaceLaws
 mod ThingLaws
+mod SomeLaws

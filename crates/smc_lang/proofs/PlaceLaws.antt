@@ -1,5 +1,5 @@
 -- What was read of the tokens of a text, said of the text.
-use Rattle.std.proofs.Common.{◌≡◌, ◌↔◌, ◌-◌, ◌≤◌, ℕ, zero, suc, Bool, true, false, List, [], ◌∷◌, ◌++◌, length, take, drop, Result, Ok, Err, refl, sym, ap, subst, ◌∙◌, arith, append-nil}
+use Rattle.std.proofs.Common.{◌≡◌, ◌-◌, ◌≤◌, ℕ, Bool, true, false, List, [], ◌∷◌, ◌++◌, length, take, drop, Result, Ok, Err, refl, sym, ap, subst, ◌∙◌, arith, append-nil}
 use Rattle.std.specs.Prelude.{if◌then◌else◌, IfOk, IfErr, MatchResult}
 use Rattle.std.proofs.lemmas.Bool.{false≢true}
 use Rattle.std.proofs.lemmas.List.{length-drop, take-append-drop, take-map, drop-map}
@@ -17,19 +17,19 @@ use Rattle.smc_parse.specs.declared.fault.Fault.TheVariants as faults
 use Rattle.smc_parse.specs.Reading.{tokens_of}
 use Rattle.smc_parse.specs.Places.{SpelledOrFault, HasFault}
 use Rattle.smc_lang.specs.Texts.{ReadsText, as_tokens, IsWrongAt, wrong_token, wrong_end, no_token, IsTooDeepAt, deep_token, IsFaultOf}
-use Rattle.smc_lang.specs.Places.{first_byte, byte_at, placed_fault, settled}
+use Rattle.smc_lang.specs.Places.{first_byte, placed_fault, settled}
 
 -- where nothing is left, the tokens stop at the text's length
 end-is-length : (text : List ℕ) (list : TokenList) → AreTokensOf text list → drop list.end text ≡ [] → list.end ≡ length text
 end-is-length text list are empty = let len : length (drop list.end text) ≡ length text - list.end = length-drop list.end text in let none : length (drop list.end text) ≡ 0 = ap length empty in let within : list.end ≤ length text = are.within in omega arith
 
 -- behind tokens that can still become a text, bytes that are no token are wrong
-bytes-wrong : (form : Form) (text : List ℕ) (list : TokenList) (left : List ℕ) → FallsInto 0 text list.tokens list.end left → (left ≡ [] → ⊥) → Begins form 64 (tokens_of list.tokens) → IsWrongAt form text list.end
+pub bytes-wrong : (form : Form) (text : List ℕ) (list : TokenList) (left : List ℕ) → FallsInto 0 text list.tokens list.end left → (left ≡ [] → ⊥) → Begins form 64 (tokens_of list.tokens) → IsWrongAt form text list.end
 bytes-wrong form text list [] falls some begins = absurd (some refl)
 bytes-wrong form text list (byte ∷ left) falls some begins = no_token falls begins
 
 -- the whole text falls into the tokens
-whole-falls : (text : List ℕ) (list : TokenList) → AreTokensOf text list → drop list.end text ≡ [] → FallsInto 0 text list.tokens (length text) []
+pub whole-falls : (text : List ℕ) (list : TokenList) → AreTokensOf text list → drop list.end text ≡ [] → FallsInto 0 text list.tokens (length text) []
 whole-falls text list are empty =
     let P : ℕ → Type 0 = λ end. FallsInto 0 text list.tokens end [] in
     let Q : List ℕ → Type 0 = λ left. FallsInto 0 text list.tokens list.end left in
@@ -57,7 +57,7 @@ deep-there form text list before [] are is w = absurd w
 deep-there form text list before (token ∷ behind) are is w = deep_token before behind (split-falls text list (before ++ token ∷ behind) are is) w
 
 -- a fault among the tokens is one of the text, at its byte
-fault-there : (form : Form) (text : List ℕ) (list : TokenList) (fault : Fault) → AreTokensOf text list → HasFault form list.tokens fault → IsFaultOf form text (placed_fault list fault)
+pub fault-there : (form : Form) (text : List ℕ) (list : TokenList) (fault : Fault) → AreTokensOf text list → HasFault form list.tokens fault → IsFaultOf form text (placed_fault list fault)
 fault-there form text list (faults.Wrong i) are (within, w) =
     wrong-there form text list (take i list.tokens) (drop i list.tokens) are (sym (take-append-drop i list.tokens))
     (rw (sym (take-map (λ p. p.token) i list.tokens), sym (drop-map (λ p. p.token) i list.tokens)) w)
@@ -67,7 +67,7 @@ fault-there form text list (faults.TooDeep i) are (within, w) =
 fault-there form text list faults.NoMemory are h = h
 
 -- tokens that spell something can still become a text
-spelled-begins : (form : Form) (s : List Token) (answer : Answer) → Spells form 64 s answer → Begins form 64 s
+pub spelled-begins : (form : Form) (s : List Token) (answer : Answer) → Spells form 64 s answer → Begins form 64 s
 spelled-begins form s answer h = let P : List Token → Type 0 = λ t. Spells form 64 t answer in ([], (answer, subst P (sym (append-nil s)) h))
 
 -- what settling makes of what was read

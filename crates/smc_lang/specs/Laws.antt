@@ -18,3 +18,7 @@ IsThing form text (deep at) = IsTooDeepAt form text at
 -- a text is one thing at most
 abbrev pub IsOneThing : Type 0
 IsOneThing = (form : Form) (text : List ℕ) (one other : Thing) → IsThing form text one → IsThing form text other → one ≡ other
+
+-- a text is one thing at least
+abbrev pub IsSomething : Type 0
+IsSomething = (form : Form) (text : List ℕ) → (thing : Thing) × IsThing form text thing

@@ -1,6 +1,6 @@
-ghost use Rattle.smc_lang.specs.Laws.{IsOneThing};
+ghost use Rattle.smc_lang.specs.Laws.{IsOneThing, IsSomething};
 
-use smc_query::laws::{fronts_begin, one_tree};
+use smc_query::laws::{fronts_begin, one_tree, spelled_or_stopped};
 use smc_tokens::laws::one_list;
 
 /// A text of a form is read as one answer, or it is wrong or too deep at one place: no two of these hold of it.
@@ -12,4 +12,11 @@ pub fn one_thing()
     one_list();
     one_tree();
     fronts_begin();
+}
+
+/// Each text is one of these things, whatever its bytes and however many.
+pub fn is_something()
+    ensures { IsSomething }
+{
+    spelled_or_stopped();
 }
