@@ -1,0 +1,22 @@
+ghost use Rattle.smc_lang.specs.Laws.{IsOneThing, IsSomething};
+
+use smc_query::laws::{fronts_begin, one_tree, spelled_or_stopped};
+use smc_tokens::laws::one_list;
+
+/// A text of a form is read as one answer, or it is wrong or too deep at one place: no two of these hold of it.
+///
+/// So what `parse` answers, where memory suffices and the text is not too long, is the only thing that the text is.
+pub fn one_thing()
+    ensures { IsOneThing }
+{
+    one_list();
+    one_tree();
+    fronts_begin();
+}
+
+/// Each text is one of these things, whatever its bytes and however many.
+pub fn is_something()
+    ensures { IsSomething }
+{
+    spelled_or_stopped();
+}
