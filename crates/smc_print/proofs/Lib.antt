@@ -1,2 +1,6 @@
-mod WriteLaws
+mod CondPrints
 mod DigitLaws
+mod ExprPrints
+mod ListPrints
+mod QueryPrints
+mod WriteLaws

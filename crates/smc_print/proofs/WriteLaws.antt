@@ -23,11 +23,11 @@ writes_on old text new before behind one two =
     rw (two, one, parts) (append_assoc (string_bytes old) (spaced_text before) (spaced_text behind))
 
 -- a sign stands before each part of a list but the first
-between_later : (place : ℕ) (sign : AnySign) → 0 < place → between place sign ≡ Sign sign ∷ []
+pub between_later : (place : ℕ) (sign : AnySign) → 0 < place → between place sign ≡ Sign sign ∷ []
 between_later place sign some = cond-false _ _ _ (ne_eqb place 0 (λ none. absurd (omega arith)))
 
 -- one more part of a list stands behind the sign, where one stands before it
-listed_next : {A : Type 0} (sign : AnySign) (tokens : A → List Token) (parts : List A) (part : A)
+pub listed_next : {A : Type 0} (sign : AnySign) (tokens : A → List Token) (parts : List A) (part : A)
     → listed sign tokens (parts ++ part ∷ []) ≡ listed sign tokens parts ++ (between (length parts) sign ++ tokens part)
 listed_next sign tokens [] part = simp append-nil
 listed_next {A} sign tokens (first ∷ parts) part =

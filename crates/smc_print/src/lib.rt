@@ -8,6 +8,7 @@
 
 mod cond;
 mod expr;
+pub mod laws;
 mod lists;
 mod number;
 mod query;
