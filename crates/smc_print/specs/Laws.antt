@@ -1,8 +1,10 @@
--- What printing is worth: the tokens of a query are read as this query.
-use Rattle.std.specs.Prelude.{ℕ, ◌≤◌, List}
+-- What printing is worth: a printed query is read as this query.
+use Rattle.std.specs.Prelude.{◌≡◌, ℕ, ◌+◌, ◌≤◌, List, [], ◌∷◌, length, Some, ⊤}
+use Rattle.smc_tokens.specs.Tokens.{token_of, PlacedToken, FallsInto}
 use Rattle.smc_tokens.specs.declared.token.Token.{Token}
 use Rattle.smc_query.specs.Trees.{QueryTree, a_query, query_text}
 use Rattle.smc_query.specs.Grammar.{Spells}
+use Rattle.smc_print.specs.TokenText.{token_text, tokens_text}
 use Rattle.smc_print.specs.Printed.{query_tokens}
 use Rattle.smc_print.specs.Depth.{query_depth}
 
@@ -11,3 +13,21 @@ use Rattle.smc_print.specs.Depth.{query_depth}
 abbrev pub TokensSpellTheQuery : Type 0
 TokensSpellTheQuery = (query : QueryTree) (other depth : ℕ) (tokens : List Token)
     → Spells query_text other tokens (a_query query) → query_depth query ≤ depth → Spells query_text depth (query_tokens query) (a_query query)
+
+-- the token is read where it is written
+abbrev pub IsRead : Token → Type 0
+IsRead token = token_of (token_text token) ≡ Some token
+
+-- each of the tokens is
+abbrev pub AreRead : List Token → Type 0
+AreRead [] = ⊤
+AreRead (token ∷ tokens) = IsRead token × AreRead tokens
+
+-- the tokens and where they begin, the first at this byte, with one space between
+abbrev pub placed : ℕ → List Token → List PlacedToken
+placed at [] = []
+placed at (token ∷ tokens) = record { token = token; at = at } ∷ placed (at + length (token_text token) + 1) tokens
+
+-- the text of tokens falls into these tokens, and into nothing else
+abbrev pub TextFallsIntoItsTokens : Type 0
+TextFallsIntoItsTokens = (tokens : List Token) → AreRead tokens → FallsInto 0 (tokens_text tokens) (placed 0 tokens) (length (tokens_text tokens)) []
