@@ -45,22 +45,22 @@ date_bytes (a ∷ b ∷ c ∷ d ∷ e ∷ f ∷ g ∷ h ∷ i ∷ j ∷ []) form
     let digit = λ (byte : ℕ) (is : is_ascii_digit byte ≡ true). or_left (is_ascii_digit byte) (eqb byte dash) is in
     let line = λ (byte : ℕ) (is : eqb byte dash ≡ true). or_right (is_ascii_digit byte) (eqb byte dash) is in
     and_from _ _ (digit a ath) (and_from _ _ (digit b bth) (and_from _ _ (digit c cth) (and_from _ _ (digit d dth) (and_from _ _ (line e eth)
-      (and_from _ _ (digit f fth) (and_from _ _ (digit g gth) (and_from _ _ (line h hth) (and_from _ _ (digit i ith) (and_from _ _ (digit j jth) refl)))))))))
+    (and_from _ _ (digit f fth) (and_from _ _ (digit g gth) (and_from _ _ (line h hth) (and_from _ _ (digit i ith) (and_from _ _ (digit j jth) refl)))))))))
 date_bytes _ form = absurd (false≢true form)
 
 date_broken : (b : ℕ) (bs more : List ℕ) → is_date (b ∷ (bs ++ space ∷ more)) ≡ false
 unfolding in_date
 date_broken b bs more =
     let form : has_date_form (b ∷ (bs ++ space ∷ more)) ≡ false =
-        false_from_ne_true _ (λ has. true≢false (sym (date_bytes (b ∷ (bs ++ space ∷ more)) has) ∙ space_fails in_date (b ∷ bs) more refl)) in
+    false_from_ne_true _ (λ has. true≢false (sym (date_bytes (b ∷ (bs ++ space ∷ more)) has) ∙ space_fails in_date (b ∷ bs) more refl)) in
     and_right _ _ (and_left _ _ form)
 
 -- ---- numbers
 
-in_number : ℕ → Bool
+unfoldable pub in_number : ℕ → Bool
 in_number byte = is_ascii_digit byte || eqb byte point
 
-digits_pass : (most : ℕ) (bytes : List ℕ) → are_digits most bytes ≡ true → list_all in_number bytes ≡ true
+pub digits_pass : (most : ℕ) (bytes : List ℕ) → are_digits most bytes ≡ true → list_all in_number bytes ≡ true
 unfolding in_number
 digits_pass most [] are = absurd (false≢true are)
 digits_pass most (b ∷ bs) are =
@@ -68,7 +68,7 @@ digits_pass most (b ∷ bs) are =
     let (digits, few) = and_parts _ _ later in
     and_from _ _ (or_left _ _ first) (all_imply is_ascii_digit in_number (λ byte is. or_left _ _ is) bs digits)
 
-fraction_passes : (bytes : List ℕ) → is_fraction bytes ≡ true → list_all in_number bytes ≡ true
+pub fraction_passes : (bytes : List ℕ) → is_fraction bytes ≡ true → list_all in_number bytes ≡ true
 unfolding in_number
 fraction_passes [] is = refl
 fraction_passes (b ∷ bs) is = let (first, digits) = and_parts _ _ is in and_from _ _ (or_right _ _ first) (digits_pass _ bs digits)
@@ -78,7 +78,7 @@ number_bytes bytes is =
     let (digits, fraction) = and_parts _ _ is in
     let parts : digits_of bytes ++ behind_digits bytes ≡ bytes = take-append-drop _ bytes in
     let all : list_all in_number (digits_of bytes ++ behind_digits bytes) ≡ true =
-        list_all-append in_number (digits_of bytes) (behind_digits bytes) ∙ and_from _ _ (digits_pass _ (digits_of bytes) digits) (fraction_passes (behind_digits bytes) fraction) in
+    list_all-append in_number (digits_of bytes) (behind_digits bytes) ∙ and_from _ _ (digits_pass _ (digits_of bytes) digits) (fraction_passes (behind_digits bytes) fraction) in
     ap (list_all in_number) (sym parts) ∙ all
 
 number_broken : (bytes more : List ℕ) → is_number (bytes ++ space ∷ more) ≡ false
@@ -100,16 +100,16 @@ quote_token bytes is = cond-false _ _ _ is
 quoted_broken : (b : ℕ) (bs more : List ℕ) (token : Token) → token_of (b ∷ bs) ≡ Some token → is_quoted (b ∷ (bs ++ space ∷ more)) ≡ false
 quoted_broken b bs more token spelled =
     elim (cases_Bool (eqb b quote)) [
-      inr other ↦ and_left _ _ other
-    | inl same ↦
-        let is : b ≡ quote = eqb-true b quote same in
-        elim (cases_Bool (ends_quoted bs)) [
-          inl ends ↦ and_right _ _ (ended_broken bs more ends)
-        | inr not_ended ↦
-            let none : token_of (quote ∷ bs) ≡ None = quote_token bs not_ended in
-            let some : token_of (quote ∷ bs) ≡ Some token = rw is at spelled in
-            absurd (cc)
-        ]
+      | inr other ↦ and_left _ _ other
+      | inl same ↦
+          let is : b ≡ quote = eqb-true b quote same in
+          elim (cases_Bool (ends_quoted bs)) [
+            | inl ends ↦ and_right _ _ (ended_broken bs more ends)
+            | inr not_ended ↦
+                let none : token_of (quote ∷ bs) ≡ None = quote_token bs not_ended in
+                let some : token_of (quote ∷ bs) ≡ Some token = rw is at spelled in
+                absurd (cc)
+          ]
     ]
 
 -- ---- signs

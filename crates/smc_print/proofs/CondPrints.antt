@@ -25,12 +25,12 @@ in_brackets_reads c alone (suc d) rest deep = rw (append_assoc (cond_tokens c) (
 either_alone : (b c : CondTree) → CondPrints b → CondPrints c → (d : ℕ) (rest : List Token) → cond_depth (either b c) ≤ d → ReadsCond d (cond_tokens (either b c) ++ rest) (either b c) rest
 either_alone b c left right d rest deep =
     rw (append_assoc (side_tokens b) (Word words.Or ∷ side_tokens c) rest)
-      (an_or (one_conj (one_neg (left.side d (Word words.Or ∷ (side_tokens c ++ rest)) (omega arith)))) (one_neg (right.side d rest (omega arith))))
+    (an_or (one_conj (one_neg (left.side d (Word words.Or ∷ (side_tokens c ++ rest)) (omega arith)))) (one_neg (right.side d rest (omega arith))))
 
 both_alone : (b c : CondTree) → CondPrints b → CondPrints c → (d : ℕ) (rest : List Token) → cond_depth (both b c) ≤ d → ReadsCond d (cond_tokens (both b c) ++ rest) (both b c) rest
 both_alone b c left right d rest deep =
     rw (append_assoc (side_tokens b) (Word words.And ∷ side_tokens c) rest)
-      (one_conj (an_and (one_neg (left.side d (Word words.And ∷ (side_tokens c ++ rest)) (omega arith))) (right.side d rest (omega arith))))
+    (one_conj (an_and (one_neg (left.side d (Word words.And ∷ (side_tokens c ++ rest)) (omega arith))) (right.side d rest (omega arith))))
 
 negation_alone : (c : CondTree) → CondPrints c → (d : ℕ) (rest : List Token) → cond_depth (negation c) ≤ d → ReadsCond d (cond_tokens (negation c) ++ rest) (negation c) rest
 negation_alone c of zero rest deep = absurd (omega arith)
@@ -40,13 +40,13 @@ comparison_reads : (op : Op) (a b : ExprTree) → ExprPrints a → ExprPrints b 
     → ReadsNeg d (cond_tokens (comparison op a b) ++ rest) (comparison op a b) rest
 comparison_reads op a b left right d rest deep =
     rw (append_assoc (expr_tokens a) (Sign (op_sign op) ∷ expr_tokens b) rest)
-      (a_comparison (left.alone d (Sign (op_sign op) ∷ (expr_tokens b ++ rest)) (omega arith)) (right.alone d rest (omega arith)))
+    (a_comparison (left.alone d (Sign (op_sign op) ∷ (expr_tokens b ++ rest)) (omega arith)) (right.alone d rest (omega arith)))
 
 within_reads : (a b c : ExprTree) → ExprPrints a → ExprPrints b → ExprPrints c → (d : ℕ) (rest : List Token) → cond_depth (within a b c) ≤ d
     → ReadsNeg d (cond_tokens (within a b c) ++ rest) (within a b c) rest
 within_reads a b c value low high d rest deep =
     rw (append_assoc (expr_tokens a) (Word words.Between ∷ (expr_tokens b ++ Word words.And ∷ expr_tokens c)) rest, append_assoc (expr_tokens b) (Word words.And ∷ expr_tokens c) rest)
-      (a_range (value.alone d (Word words.Between ∷ (expr_tokens b ++ Word words.And ∷ (expr_tokens c ++ rest))) (omega arith)) (low.alone d (Word words.And ∷ (expr_tokens c ++ rest)) (omega arith)) (high.alone d rest (omega arith)))
+    (a_range (value.alone d (Word words.Between ∷ (expr_tokens b ++ Word words.And ∷ (expr_tokens c ++ rest))) (omega arith)) (low.alone d (Word words.And ∷ (expr_tokens c ++ rest)) (omega arith)) (high.alone d rest (omega arith)))
 
 mutual
   neg_prints : {d : ℕ} {s r : List Token} {c : CondTree} → ReadsNeg d s c r → CondPrints c
@@ -56,11 +56,11 @@ mutual
   }
   neg_prints (brackets of) = cond_prints of
   neg_prints (a_comparison {op = op} {a = a} {b = b} left right) =
-    let reads = comparison_reads op a b (expr_prints left) (expr_prints right) in
-    record { alone = λ d rest deep. one_conj (one_neg (reads d rest deep)); side = reads }
+      let reads = comparison_reads op a b (expr_prints left) (expr_prints right) in
+      record { alone = λ d rest deep. one_conj (one_neg (reads d rest deep)); side = reads }
   neg_prints (a_range {a = a} {b = b} {c = c} value low high) =
-    let reads = within_reads a b c (expr_prints value) (expr_prints low) (expr_prints high) in
-    record { alone = λ d rest deep. one_conj (one_neg (reads d rest deep)); side = reads }
+      let reads = within_reads a b c (expr_prints value) (expr_prints low) (expr_prints high) in
+      record { alone = λ d rest deep. one_conj (one_neg (reads d rest deep)); side = reads }
 
   conj_prints : {d : ℕ} {s r : List Token} {c : CondTree} → ReadsConj d s c r → CondPrints c
   conj_prints (one_neg neg) = neg_prints neg

@@ -23,17 +23,17 @@ in_parentheses_reads a alone (suc d) rest deep = rw (append_assoc (expr_tokens a
 sum_alone : (a b : ExprTree) → ExprPrints a → ExprPrints b → (d : ℕ) (rest : List Token) → expr_depth (sum a b) ≤ d → ReadsExpr d (expr_tokens (sum a b) ++ rest) (sum a b) rest
 sum_alone a b left right d rest deep =
     rw (append_assoc (operand_tokens a) (Sign signs.Plus ∷ operand_tokens b) rest)
-      (a_sum (one_term (one_factor (left.operand d (Sign signs.Plus ∷ (operand_tokens b ++ rest)) (omega arith)))) (one_factor (right.operand d rest (omega arith))))
+    (a_sum (one_term (one_factor (left.operand d (Sign signs.Plus ∷ (operand_tokens b ++ rest)) (omega arith)))) (one_factor (right.operand d rest (omega arith))))
 
 difference_alone : (a b : ExprTree) → ExprPrints a → ExprPrints b → (d : ℕ) (rest : List Token) → expr_depth (difference a b) ≤ d → ReadsExpr d (expr_tokens (difference a b) ++ rest) (difference a b) rest
 difference_alone a b left right d rest deep =
     rw (append_assoc (operand_tokens a) (Sign signs.Minus ∷ operand_tokens b) rest)
-      (a_difference (one_term (one_factor (left.operand d (Sign signs.Minus ∷ (operand_tokens b ++ rest)) (omega arith)))) (one_factor (right.operand d rest (omega arith))))
+    (a_difference (one_term (one_factor (left.operand d (Sign signs.Minus ∷ (operand_tokens b ++ rest)) (omega arith)))) (one_factor (right.operand d rest (omega arith))))
 
 product_alone : (a b : ExprTree) → ExprPrints a → ExprPrints b → (d : ℕ) (rest : List Token) → expr_depth (product a b) ≤ d → ReadsExpr d (expr_tokens (product a b) ++ rest) (product a b) rest
 product_alone a b left right d rest deep =
     rw (append_assoc (operand_tokens a) (Sign signs.Star ∷ operand_tokens b) rest)
-      (one_term (a_product (one_factor (left.operand d (Sign signs.Star ∷ (operand_tokens b ++ rest)) (omega arith))) (right.operand d rest (omega arith))))
+    (one_term (a_product (one_factor (left.operand d (Sign signs.Star ∷ (operand_tokens b ++ rest)) (omega arith))) (right.operand d rest (omega arith))))
 
 minus_alone : (a : ExprTree) → ExprPrints a → (d : ℕ) (rest : List Token) → expr_depth (minus a) ≤ d → ReadsExpr d (expr_tokens (minus a) ++ rest) (minus a) rest
 minus_alone a of zero rest deep = absurd (omega arith)

@@ -1,8 +1,10 @@
 mod BrokenTokens
 mod CondPrints
 mod DigitLaws
+mod DigitTexts
 mod ExprPrints
 mod ListPrints
 mod QueryPrints
+mod ReadAgain
 mod TextFalls
 mod WriteLaws

@@ -47,7 +47,7 @@ items_print (one_item {i = i} item) d rest deep = rw (listed_one signs.Comma ite
 items_print (more_items {is = is} {i = i} before item) d rest deep =
     let all = items_deeper is i in
     rw (listed_later signs.Comma item_tokens is i rest (items_some before))
-      (more_items (items_print before d (Sign signs.Comma ∷ (item_tokens i ++ rest)) (omega arith)) (item_prints item d rest (omega arith)))
+    (more_items (items_print before d (Sign signs.Comma ∷ (item_tokens i ++ rest)) (omega arith)) (item_prints item d rest (omega arith)))
 
 -- ---- a query
 

@@ -25,10 +25,10 @@ takes_spaced bytes later token spelled =
       within = omega arith;
       spelled = rw (take-append_seam bytes (space ∷ later)) spelled;
       longest = λ more less within.
-        let count : more ≡ length bytes + suc (more - length bytes - 1) = omega arith in
-        ap (λ n. token_of (take n (bytes ++ space ∷ later))) count
-        ∙ ap token_of (take-append-add bytes (space ∷ later) (suc (more - length bytes - 1)))
-        ∙ broken bytes (take (more - length bytes - 1) later) token spelled;
+          let count : more ≡ length bytes + suc (more - length bytes - 1) = omega arith in
+          ap (λ n. token_of (take n (bytes ++ space ∷ later))) count
+          ∙ ap token_of (take-append-add bytes (space ∷ later) (suc (more - length bytes - 1)))
+          ∙ broken bytes (take (more - length bytes - 1) later) token spelled;
     }
 
 falls : (token : Token) (tokens : List Token) (at end : ℕ) → IsRead token → AreRead tokens → end ≡ at + length (token_text token ++ spaced_text tokens)

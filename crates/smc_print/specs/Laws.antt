@@ -23,6 +23,10 @@ abbrev pub AreRead : List Token → Type 0
 AreRead [] = ⊤
 AreRead (token ∷ tokens) = IsRead token × AreRead tokens
 
+-- a token of any text is read where it is written
+abbrev pub TokensOfTextsAreRead : Type 0
+TokensOfTextsAreRead = (bytes : List ℕ) (token : Token) → token_of bytes ≡ Some token → IsRead token
+
 -- the tokens and where they begin, the first at this byte, with one space between
 abbrev pub placed : ℕ → List Token → List PlacedToken
 placed at [] = []

@@ -12,6 +12,8 @@ pub mod laws;
 mod lists;
 mod number;
 mod query;
+#[cfg(test)]
+mod tests;
 mod token;
 
 pub use query::print;
