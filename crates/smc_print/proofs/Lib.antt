@@ -4,7 +4,10 @@ mod DigitLaws
 mod DigitTexts
 mod ExprPrints
 mod ListPrints
+mod NumberTexts
+mod PrintedRead
 mod QueryPrints
 mod ReadAgain
 mod TextFalls
+mod TokensRead
 mod WriteLaws

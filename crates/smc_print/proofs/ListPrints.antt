@@ -39,7 +39,7 @@ path_prints (more_names {p = p} {n = n} before) rest =
     let later = listed_later signs.Dot (λ (name : List ℕ). Name name ∷ []) p n rest (path_some before) in
     rw later (more_names (path_prints before (Sign signs.Dot ∷ (Name n ∷ rest))))
 
-paths_some : {s r : List Token} {ps : List PathTree} → ReadsPaths s ps r → 0 < length ps
+pub paths_some : {s r : List Token} {ps : List PathTree} → ReadsPaths s ps r → 0 < length ps
 paths_some (one_path path) = omega arith
 paths_some (more_paths {ps = ps} {p = p} before path) = some_more ps p
 
@@ -62,7 +62,7 @@ key_prints : {s r : List Token} {k : KeyTree} → ReadsKey s k r → (rest : Lis
 key_prints (rising {p = p} path) rest = rw (append-nil (path_tokens p)) (rising (path_prints path rest))
 key_prints (falling {p = p} path) rest = rw (append_assoc (path_tokens p) (Word words.Desc ∷ []) rest) (falling (path_prints path (Word words.Desc ∷ rest)))
 
-keys_some : {s r : List Token} {ks : List KeyTree} → ReadsKeys s ks r → 0 < length ks
+pub keys_some : {s r : List Token} {ks : List KeyTree} → ReadsKeys s ks r → 0 < length ks
 keys_some (one_key key) = omega arith
 keys_some (more_keys {ks = ks} {k = k} before key) = some_more ks k
 

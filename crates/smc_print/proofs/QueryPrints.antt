@@ -32,7 +32,7 @@ item_prints (unnamed {c = c} call) d rest deep = rw (append-nil (call_tokens c))
 item_prints (named {c = c} {n = n} call) d rest deep =
     rw (append_assoc (call_tokens c) (Word words.As ∷ (Name n ∷ [])) rest) (named (call_prints call d (Word words.As ∷ (Name n ∷ rest)) deep))
 
-items_some : {d : ℕ} {s r : List Token} {is : List ItemTree} → ReadsItems d s is r → 0 < length is
+pub items_some : {d : ℕ} {s r : List Token} {is : List ItemTree} → ReadsItems d s is r → 0 < length is
 items_some (one_item item) = omega arith
 items_some (more_items {is = is} {i = i} before item) = some_more is i
 

@@ -1,5 +1,5 @@
 -- What printing is worth: a printed query is read as this query.
-use Rattle.std.specs.Prelude.{◌≡◌, ℕ, ◌+◌, ◌≤◌, List, [], ◌∷◌, length, Some, ⊤}
+use Rattle.std.specs.Prelude.{◌≡◌, ℕ, ◌+◌, ◌≤◌, List, [], ◌∷◌, length, map, Some, ⊤}
 use Rattle.smc_tokens.specs.Tokens.{token_of, PlacedToken, FallsInto}
 use Rattle.smc_tokens.specs.declared.token.Token.{Token}
 use Rattle.smc_query.specs.Trees.{QueryTree, a_query, query_text}
@@ -35,3 +35,13 @@ placed at (token ∷ tokens) = record { token = token; at = at } ∷ placed (at 
 -- the text of tokens falls into these tokens, and into nothing else
 abbrev pub TextFallsIntoItsTokens : Type 0
 TextFallsIntoItsTokens = (tokens : List Token) → AreRead tokens → FallsInto 0 (tokens_text tokens) (placed 0 tokens) (length (tokens_text tokens)) []
+
+-- the text falls into tokens that spell the query, of which at most so many are open at one place
+abbrev pub IsTextOf : ℕ → List ℕ → QueryTree → Type 0
+IsTextOf depth text query = (list : List PlacedToken)
+    × (FallsInto 0 text list (length text) [] × Spells query_text depth (map (λ (part : PlacedToken). part.token) list) (a_query query))
+
+-- Where some text is a query's, its printed text is too, and nests as deep as the query's depth says.
+abbrev pub PrintedIsRead : Type 0
+PrintedIsRead = (query : QueryTree) (other depth : ℕ) (text : List ℕ)
+    → IsTextOf other text query → query_depth query ≤ depth → IsTextOf depth (tokens_text (query_tokens query)) query
