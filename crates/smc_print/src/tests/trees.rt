@@ -24,6 +24,15 @@ pub fn field(alloc: Global, names: &[&str]) -> Result<Expr, Fail> {
     Ok(Expr::Field(path(alloc, names)?))
 }
 
+/// A comparison of a field with something.
+pub fn is(alloc: Global, names: &[&str], op: Op, right: Expr) -> Result<Cond, Fail> {
+    Ok(Cond::Compare {
+        op,
+        left: field(alloc, names)?,
+        right,
+    })
+}
+
 pub fn number(units: u64, decimals: u32) -> Expr {
     Expr::Number { units, decimals }
 }
@@ -79,20 +88,49 @@ pub fn unnamed(call: ItemCall) -> Item {
     Item { call, label: None }
 }
 
-/// A query of no keys that shows how many rows meet the condition.
-pub fn counting(alloc: Global, filter: Cond) -> Result<Query, Fail> {
-    let mut items = Vec::new(alloc);
-    items.push(unnamed(ItemCall::Count))?;
+/// A query that shows these output columns of the rows that meet the condition.
+pub fn showing(alloc: Global, filter: Cond, items: Items) -> Result<Query, Fail> {
     Ok(Query {
-        table: name(alloc, "part")?,
+        table: name(alloc, "lineitem")?,
         filter: Some(filter),
         by: Paths::of(Vec::new(alloc)),
-        items: Items::of(items),
+        items,
         sort: SortKeys::of(Vec::new(alloc)),
         first: None,
     })
 }
 
-pub fn key(path: Path, desc: bool) -> SortKey {
-    SortKey { path, desc }
+/// One output column.
+pub fn one(alloc: Global, item: Item) -> Result<Items, Fail> {
+    let mut items = Vec::new(alloc);
+    items.push(item)?;
+    Ok(Items::of(items))
+}
+
+/// What the lines of a group bring in, by that name.
+pub fn named_revenue(alloc: Global) -> Result<Item, Fail> {
+    let call = ItemCall::Sum(revenue(alloc)?);
+    Ok(Item {
+        call,
+        label: Some(name(alloc, "revenue")?),
+    })
+}
+
+/// Two paths.
+pub fn two(alloc: Global, first: Path, second: Path) -> Result<Paths, Fail> {
+    let mut paths = Vec::new(alloc);
+    paths.push(first)?;
+    paths.push(second)?;
+    Ok(Paths::of(paths))
+}
+
+/// Two sort keys, of which the first falls or rises.
+pub fn two_keys(alloc: Global, first: Path, desc: bool, second: Path) -> Result<SortKeys, Fail> {
+    let mut keys = Vec::new(alloc);
+    keys.push(SortKey { path: first, desc })?;
+    keys.push(SortKey {
+        path: second,
+        desc: false,
+    })?;
+    Ok(SortKeys::of(keys))
 }
