@@ -1,0 +1,13 @@
+mod BrokenTokens
+mod CondPrints
+mod DigitLaws
+mod DigitTexts
+mod ExprPrints
+mod ListPrints
+mod NumberTexts
+mod PrintedRead
+mod QueryPrints
+mod ReadAgain
+mod TextFalls
+mod TokensRead
+mod WriteLaws

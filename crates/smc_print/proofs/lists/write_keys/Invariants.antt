@@ -1,0 +1,9 @@
+use Rattle.std.proofs.Common.{map, take}
+use Rattle.smc_query.specs.Trees.{key_tree}
+use Rattle.smc_tokens.specs.declared.sign.Sign.TheVariants as signs
+use Rattle.smc_print.specs.TokenText.{Writes}
+use Rattle.smc_print.specs.Printed.{listed, key_tokens}
+use Rattle.smc_print.proofs.lists.write_keys.Given as goal
+
+abbrev pub invariant-loop-place : goal.invariant-loop-place
+invariant-loop-place l = Writes l.fn.text l.text (listed signs.Comma key_tokens (map key_tree (take l.place l.keys)))

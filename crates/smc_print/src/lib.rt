@@ -1,0 +1,19 @@
+//! Queries printed as text.
+//!
+//! `query` has the one call, `print`; `lists`, `cond` and `expr` print the parts of a query, `token` and `number` single
+//! tokens. Below stand `smc_tokens` and `smc_query`, for tokens and trees, `smc_words`, for want of memory, and the kit's
+//! `itoa`. Which tokens a query is printed with is defined in `specs/Printed.antt`, and how they are written in
+//! `specs/TokenText.antt`.
+#![tactic(auto)]
+
+mod cond;
+mod expr;
+pub mod laws;
+mod lists;
+mod number;
+mod query;
+#[cfg(test)]
+mod tests;
+mod token;
+
+pub use query::print;
