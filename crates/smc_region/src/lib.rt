@@ -1,0 +1,15 @@
+//! The running region.
+#![tactic(auto)]
+
+mod chosen;
+mod law;
+mod pass;
+mod region;
+mod section;
+mod word;
+
+pub use chosen::Chosen;
+pub use law::{About, View};
+pub use pass::Pass;
+pub use region::Region;
+pub use section::Section;
