@@ -18,7 +18,7 @@ use Rattle.smc_core.specs.Row.{OpFits, Suits, place_of, packed, put}
 use Rattle.smc_region.specs.declared.law.View.{View}
 use Rattle.smc_region.specs.Rule.{IsOwn}
 use Rattle.smc_region.specs.Views.{IsAlone, view_op}
-use Rattle.smc_region.specs.Words.{PartsFit}
+use Rattle.smc_row.specs.Words.{PartsFit}
 use Rattle.smc_region.proofs.Keeps.{Rule, Then, fits_place, seat_acts}
 
 -- at the choice and the operation that a play names, at the index of its place in this shape

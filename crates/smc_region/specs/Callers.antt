@@ -2,14 +2,14 @@
 use Rattle.std.specs.Prelude.{◌≡◌, ℕ, ◌+◌, ◌<◌, Bool, Some, None, List, [], ◌∷◌, ◌++◌, length}
 use Rattle.atomic_table.specs.Seated.{TableId}
 use Rattle.atomic_table.specs.Table.{Me}
-use Rattle.smc_shape.specs.Layout.{Layout, words_of}
+use Rattle.smc_shape.specs.Layout.{Layout}
 use Rattle.smc_model.specs.declared.event.Event.TheVariants as event
 use Rattle.smc_core.specs.declared.done.Done.{Done}
 use Rattle.smc_core.specs.declared.done.Done.TheVariants as done
 use Rattle.smc_core.specs.declared.local.Local.{Local}
 use Rattle.smc_core.specs.declared.phase.Phase.TheVariants.{Idle}
 use Rattle.smc_core.specs.declared.section.Section.TheVariants.{Outside, Inside}
-use Rattle.smc_core.specs.Local.{answered, logged}
+use Rattle.smc_core.specs.Local.{fresh}
 use Rattle.smc_region.specs.declared.law.View.{View}
 use Rattle.smc_region.specs.declared.region.Region.{Region}
 use Rattle.smc_region.specs.Views.{one, sole}
@@ -24,6 +24,10 @@ pub record Caller : Type 0 where
 -- the pass that a seat stands for
 abbrev pub caller_of : ℕ → TableId → Me (Unit {0}) View → Caller
 caller_of number table me = record { table = table; shape = me.0.shape; number = number; local = sole me.0.shape me.0.locals }
+
+-- a pass that has done nothing yet
+abbrev pub new_caller : TableId → Layout → ℕ → Caller
+new_caller table shape number = record { table = table; shape = shape; number = number; local = fresh shape }
 
 -- the seat is that of this pass alone
 pub record IsSeatOf (number : ℕ) (me : Me (Unit {0}) View) : Type 0 where

@@ -2,6 +2,5 @@ pub mod Reached
 pub mod Views
 pub mod Rule
 pub mod Choices
-pub mod Words
 pub mod Callers
 pub mod Sections

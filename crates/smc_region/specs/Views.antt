@@ -1,5 +1,5 @@
 -- What a seat of the table knows, its view: the local states of passes, and notes.
-use Rattle.std.specs.Prelude.{◌≡◌, ℕ, ◌+◌, Option, Some, None, List, [], ◌∷◌, map, length, replicate}
+use Rattle.std.specs.Prelude.{◌≡◌, ℕ, ◌+◌, Option, Some, None, List, [], ◌∷◌, ◌++◌, map, length, replicate}
 use Rattle.atomic_table.specs.Table.{Me}
 use Rattle.smc_shape.specs.Layout.{Layout}
 use Rattle.smc_model.specs.declared.event.Event.{Event}
@@ -55,6 +55,29 @@ view_op view choice = sole_op view.shape view.locals choice
 abbrev pub sole : Layout → List (ℕ × Local) → Local
 sole shape [] = fresh shape
 sole shape (x ∷ later) = x.1
+
+-- the local states of a view but the first, and the first alone
+abbrev pub tail : List (ℕ × Local) → List (ℕ × Local)
+tail [] = []
+tail (x ∷ later) = later
+
+abbrev pub head : List (ℕ × Local) → List (ℕ × Local)
+head [] = []
+head (x ∷ later) = x ∷ []
+
+-- the view without its first pass, and with that pass alone
+abbrev pub behind : View → View
+behind view = record { shape = view.shape; locals = tail view.locals; notes = view.notes }
+
+abbrev pub front : View → View
+front view = record { shape = view.shape; locals = head view.locals; notes = [] }
+
+-- the view of a seat that took another's in, and what is left to the other
+abbrev pub gathered : View → View → View
+gathered view other = record { shape = view.shape; locals = other.locals ++ view.locals; notes = other.notes ++ view.notes }
+
+abbrev pub spent : View
+spent = record { shape = record { passes = 0; colls = [] }; locals = []; notes = [] }
 
 -- a seat with no note, and no slot of the table
 abbrev pub IsAlone : Me (Unit {0}) View → Type 0

@@ -1,5 +1,5 @@
 //! The rule of the table, and what a step tells the one that takes it.
-use atomic_table::{Play, TableRule};
+use atomic_table::{Join, Play, Split, TableRule};
 use smc_core::{Local, Opening};
 use smc_model::Event;
 use smc_shape::Shape;
@@ -70,4 +70,26 @@ impl<C: Choosing> Play<(), View> for Acts<C> {
     ghost use Rattle.smc_region.specs.Views.{view_after};
 
     ghost then = { λ step me found me'. (me' ≡ (view_after C.choice 0 (shown C.op found) me.0, me.1)) × Saw me.0 C.op (shown C.op found) × From me'.0 };
+}
+
+/// A pass goes to a seat of its own.
+pub struct Deal;
+
+impl Split<View> for Deal {
+    ghost use Rattle.smc_region.specs.Views.{behind, front};
+
+    ghost left = { behind };
+
+    ghost right = { front };
+}
+
+/// A seat takes another's passes in.
+pub struct Gather;
+
+impl Join<View> for Gather {
+    ghost use Rattle.smc_region.specs.Views.{gathered, spent};
+
+    ghost both = { gathered };
+
+    ghost spent = { spent };
 }

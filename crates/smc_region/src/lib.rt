@@ -3,10 +3,10 @@
 
 mod chosen;
 mod law;
+mod open;
 mod pass;
 mod region;
 mod section;
-mod word;
 
 pub use chosen::Chosen;
 pub use law::{About, View};

@@ -9,9 +9,10 @@ ghost use Rattle.smc_region.specs.Views.{IsAlone, view_after, view_op};
 
 use crate::chosen::Chosen;
 use crate::law::{About, Acts, Choosing, Law, View};
-use crate::word::{packed, unpacked};
+
 use atomic_table::{Seat, Table};
 use smc_core::{Op, Word};
+use smc_row::{packed, unpacked};
 use smc_shape::{Place, Shape};
 use smc_words::Entry;
 use std::alloc::Global;

@@ -1,14 +1,15 @@
 //! The words of a region as numbers: how they are packed and read.
 ghost use Rattle.std.specs.Prelude.{◌≡◌};
 ghost use Rattle.smc_core.specs.Row.{packed, entry_of, state_in, unpacked, unpacked_dir, unpacked_entry, unpacked_number, unpacked_round, FitsState};
-ghost use Rattle.smc_region.specs.Words.{PartsFit};
+ghost use Rattle.smc_row.specs.Words.{PartsFit};
 
 use smc_core::{State, Word};
 use smc_shape::Place;
 use smc_words::{Dir, ENTRIES, Entry, Number, RoundWord};
 
 /// The number that stands for a word.
-pub(crate) fn packed(word: Word) -> u64
+#[inline(always)]
+pub fn packed(word: Word) -> u64
     requires { PartsFit word }
     ensures { result ≡ packed word }
 {
@@ -24,7 +25,8 @@ pub(crate) fn packed(word: Word) -> u64
 }
 
 /// What a number says at a place.
-pub(crate) fn unpacked(place: Place, number: u64) -> Word
+#[inline(always)]
+pub fn unpacked(place: Place, number: u64) -> Word
     ensures { result ≡ unpacked place number }
 {
     match place {
@@ -38,6 +40,7 @@ pub(crate) fn unpacked(place: Place, number: u64) -> Word
 }
 
 /// An entry with these marks.
+#[inline(always)]
 fn entry_with(
     incarnation: u32,
     payload: u64,
@@ -66,6 +69,7 @@ fn entry_with(
 }
 
 /// The entry in this state.
+#[inline(always)]
 fn entry_of(state: State) -> Entry
     ensures { result ≡ entry_of state }
 {
@@ -93,6 +97,7 @@ fn entry_of(state: State) -> Entry
 }
 
 /// The state that an entry is in.
+#[inline(always)]
 fn state_in(entry: Entry) -> State
     ensures { result ≡ state_in entry }
 {
@@ -129,6 +134,7 @@ fn state_in(entry: Entry) -> State
     }
 }
 
+#[inline(always)]
 fn unpacked_entry(number: u64) -> Entry
     ensures { result ≡ unpacked_entry number }
 {
@@ -136,6 +142,7 @@ fn unpacked_entry(number: u64) -> Entry
 }
 
 /// A number that is no directory word says what nobody may use.
+#[inline(always)]
 fn unpacked_dir(number: u64) -> Dir
     ensures { result ≡ unpacked_dir number }
 {
@@ -145,12 +152,14 @@ fn unpacked_dir(number: u64) -> Dir
     }
 }
 
+#[inline(always)]
 fn unpacked_number(number: u64) -> Option<Number>
     ensures { result ≡ unpacked_number number }
 {
     Number::unpack(number)
 }
 
+#[inline(always)]
 fn unpacked_round(number: u64) -> Option<RoundWord>
     ensures { result ≡ unpacked_round number }
 {
