@@ -1,10 +1,11 @@
 //! A pass inside a section.
-ghost use Rattle.std.specs.Prelude.{◌≡◌, ◌≤◌, Some, length};
+ghost use Rattle.std.specs.Prelude.{◌≡◌, ◌<◌, ◌≤◌, Some, length, slice_get};
 ghost use Rattle.smc_core.specs.declared.phase.Phase.TheVariants.{Idle};
 ghost use Rattle.smc_core.specs.Local.{after};
 ghost use Rattle.smc_core.specs.Machine.{local_offer};
 ghost use Rattle.smc_core.specs.Row.{OpFits};
-ghost use Rattle.smc_region.specs.Callers.{IsSame, left};
+ghost use Rattle.smc_core.specs.Section.{epoch_of, is_calm};
+ghost use Rattle.smc_region.specs.Callers.{IsPassOf, IsSame, left};
 ghost use Rattle.smc_region.specs.Choices.{choice_of};
 ghost use Rattle.smc_region.specs.Reached.{Saw};
 ghost use Rattle.smc_region.specs.Sections.{IsWithin, scans_with, cursors_by};
@@ -102,6 +103,49 @@ impl<'r> Section<'r> {
 }
 
 impl<'r> Section<'r> {
+    /// The epoch of the section.
+    pub fn epoch(&self) -> u64
+        ensures { result ≡ epoch_of self.now.local.stand.section }
+    {
+        self.epoch
+    }
+
+    /// Whether the section is calm: no object is locked while it lasts.
+    pub fn calm(&self) -> bool
+        ensures { result ≡ is_calm self.now.local.stand.section }
+    {
+        self.calm
+    }
+
+    /// How many scans the section has begun.
+    pub fn scans(&self) -> u32
+        ensures { result ≡ length self.now.local.stand.scans }
+    {
+        self.scans
+    }
+
+    /// The number of its pass.
+    pub fn pass(&self) -> u32
+        ensures { result ≡ self.now.number }
+    {
+        self.number
+    }
+
+    /// Its region.
+    pub fn region(&self) -> &'r Region
+        ensures { IsPassOf result.now self.now }
+    {
+        self.region
+    }
+
+    /// The slot behind that of the latest object that the pass has added to the collection `c`, at first 0.
+    pub fn cursor(&self, c: u8) -> u32
+        requires { c < length self.now.shape.colls }
+        ensures { slice_get self.now.local.cursors c ≡ Some result }
+    {
+        self.cursors[usize::from(c)]
+    }
+
     /// Ends the section.
     #[inline]
     pub fn leave(self) -> Pass
