@@ -1,9 +1,9 @@
 -- A section after a step of it is a section.
-use Rattle.std.proofs.Common.{◌≡◌, ℕ, Bool, List, [], length, refl, sym, ap, ◌∙◌, subst}
-use Rattle.std.specs.Prelude.{Some}
+use Rattle.std.proofs.Common.{◌≡◌, ℕ, zero, suc, ◌<◌, Bool, List, [], ◌∷◌, length, arith, refl, sym, ap, ◌∙◌, subst}
+use Rattle.std.specs.Prelude.{Some, slice_index_or}
 use Rattle.atomic_table.specs.Seated.{TableId}
 use Rattle.atomic_table.specs.Table.{Me}
-use Rattle.smc_shape.specs.Layout.{Layout}
+use Rattle.smc_shape.specs.Layout.{Collection, Layout, no_coll}
 use Rattle.smc_core.specs.declared.call.Choice.{Choice}
 use Rattle.smc_core.specs.declared.local.Local.{Local}
 use Rattle.smc_core.specs.declared.op.Offer.{Offer}
@@ -66,3 +66,9 @@ caller-fits number table me v choice op is seat from offered =
     let l : Local = sole me.0.shape me.0.locals in
     let offers : op_of (local_offer me.0.shape number l choice) ≡ Some op = subst (λ (x : Caller). op_of (local_offer x.shape x.number x.local choice) ≡ Some op) (sym is) offered in
     seat_fits me.0 choice op from (ap (λ (m : Me (Unit {0}) View). view_op m.0 choice) seat.is ∙ offers)
+
+-- a collection that has a slot is one of the region
+pub coll_within : (colls : List Collection) (c slot : ℕ) → slot < (slice_index_or colls c no_coll).slots → c < length colls
+coll_within [] c slot lt = absurd (omega arith)
+coll_within (first ∷ later) zero slot lt = omega arith
+coll_within (first ∷ later) (suc c) slot lt = let h = coll_within later c slot lt in omega arith

@@ -4,3 +4,6 @@ pub mod Allowed
 pub mod SectionLaws
 pub mod Insides
 pub mod Deals
+pub mod EpochLaws
+pub mod Gathers
+pub mod Closes

@@ -4,3 +4,6 @@ pub mod Rule
 pub mod Choices
 pub mod Callers
 pub mod Sections
+pub mod Looks
+pub mod Advances
+pub mod Ends

@@ -1,5 +1,5 @@
 -- What a step inside a section leaves of what the section keeps at run time.
-use Rattle.std.specs.Prelude.{ℕ, ◌+◌, List, slice_set}
+use Rattle.std.specs.Prelude.{ℕ, ◌+◌, ◌-◌, ◌^◌, ◌<◌, List, slice_set}
 use Rattle.smc_shape.specs.Layout.{Layout, slots_of}
 use Rattle.smc_shape.specs.declared.place.Place.TheVariants as place
 use Rattle.smc_core.specs.declared.call.Call.TheVariants as call
@@ -22,6 +22,11 @@ IsWithin choice = Unit {0}
 abbrev pub scans_with : ℕ → Chosen → ℕ
 scans_with scans (chosen.Scan coll) = scans + 1
 scans_with scans _ = scans
+
+-- there may be one scan more
+abbrev pub MayBegin : ℕ → Chosen → Type 0
+MayBegin scans (chosen.Scan coll) = scans < 2 ^ 32 - 1
+MayBegin scans _ = Unit {0}
 
 -- the cursors after such an operation: the store of a new object leaves its collection's behind its slot
 abbrev pub cursors_by : Layout → List ℕ → Op → List ℕ

@@ -19,6 +19,7 @@ use std::alloc::Global;
 use std::marker::Brand;
 
 /// A region of words, which the passes that were opened with it step on.
+#[derive(Drop)]
 pub struct Region {
     pub(crate) table: Table<(), View, About, Law, Global>,
     pub(crate) about: About,

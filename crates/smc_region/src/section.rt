@@ -1,5 +1,5 @@
 //! A pass inside a section.
-ghost use Rattle.std.specs.Prelude.{◌≡◌, ◌<◌, ◌≤◌, Some, length, slice_get};
+ghost use Rattle.std.specs.Prelude.{◌≡◌, ◌<◌, Some, length, slice_get};
 ghost use Rattle.smc_core.specs.declared.phase.Phase.TheVariants.{Idle};
 ghost use Rattle.smc_core.specs.Local.{after};
 ghost use Rattle.smc_core.specs.Machine.{local_offer};
@@ -8,7 +8,7 @@ ghost use Rattle.smc_core.specs.Section.{epoch_of, is_calm};
 ghost use Rattle.smc_region.specs.Callers.{IsPassOf, IsSame, left};
 ghost use Rattle.smc_region.specs.Choices.{choice_of};
 ghost use Rattle.smc_region.specs.Reached.{Saw};
-ghost use Rattle.smc_region.specs.Sections.{IsWithin, scans_with, cursors_by};
+ghost use Rattle.smc_region.specs.Sections.{IsWithin, MayBegin, scans_with, cursors_by};
 ghost use Rattle.smc_region.specs.Views.{one, op_of};
 
 use crate::chosen::Chosen;
@@ -53,7 +53,7 @@ impl<'r> Model for Section<'r> {
 /// How many scans a section has begun after this choice.
 #[inline(always)]
 fn scans_with(scans: u32, chosen: Chosen<'_>) -> u32
-    requires { scans_with scans chosen ≤ u32.MAX }
+    requires { MayBegin scans chosen }
     ensures { result ≡ scans_with scans chosen.entry }
 {
     match chosen {
@@ -90,10 +90,11 @@ impl<'r> Section<'r> {
     pub fn act(&mut self, chosen: Chosen<'_>, op: Op) -> Word
         requires within { IsWithin (choice_of self.old.local.stand.scans chosen) }
         requires offered { op_of (local_offer self.old.shape self.old.number self.old.local (choice_of self.old.local.stand.scans chosen)) ≡ Some op }
-        requires scans { scans_with (length self.old.local.stand.scans) chosen ≤ u32.MAX }
+        requires scans { MayBegin (length self.old.local.stand.scans) chosen }
         ensures same { IsSame self.old self.new }
         ensures after { self.new.local ≡ after self.old.shape self.old.number self.old.local (choice_of self.old.local.stand.scans chosen.entry) 0 result }
         ensures saw { Saw (one self.old.shape self.old.number self.old.local) op result }
+        ensures fits { OpFits self.old.shape op }
     {
         let word = step(self.region, &mut self.seat, chosen, op);
         self.scans = scans_with(self.scans, chosen);

@@ -2,6 +2,7 @@ use Rattle.std.proofs.Common.{ap, sym, ◌∙◌, subst}
 use Rattle.std.specs.Prelude.{length}
 use Rattle.smc_shape.specs.Layout.{Layout}
 use Rattle.smc_core.specs.Row.{OpFits}
+use Rattle.smc_region.specs.Callers.{Caller}
 use Rattle.smc_region.specs.Choices.{choice_of}
 use Rattle.smc_region.specs.Sections.{cursors_by}
 use Rattle.smc_region.proofs.Insides.{agrees-after, caller-fits}
@@ -30,3 +31,10 @@ invariant_of-self c =
       a.cursors,
       c.move_cursor.ensures.long ∙ (i.6 ∙ ap (λ (t : Layout). length t.colls) (i.2.1 ∙ sym a.shape)),
     )
+
+pub returns-clause-fits : goal.returns-clause-fits
+returns-clause-fits c =
+    let x = c.self.inside in
+    let v = c.args.self.now in
+    subst (λ (k : Caller). OpFits k.shape c.args.op) c.self.view_is
+    (caller-fits x.number x.seat.table_id x.seat.me v (choice_of v.local.stand.scans c.args.chosen) c.args.op c.self.view_is c.self.invariant.0 c.self.invariant.1 c.requires.offered)

@@ -1,0 +1,132 @@
+ghost use Rattle.std.specs.Prelude.{◌≡◌, ◌+◌, ◌*◌, ◌∷◌, [], IfSome, Some, length, slice_get};
+ghost use Rattle.smc_shape.specs.Layout.{asked};
+ghost use Rattle.smc_core.specs.Machine.{IsOpening};
+ghost use Rattle.smc_region.specs.Callers.{IsPassOf};
+
+use crate::{Advance, Pass, Region};
+use smc_core::{LAST_EPOCH, Opening};
+use smc_shape::{CollShape, Shape};
+use smc_words::Number;
+use std::alloc::{AllocError, Global};
+use std::thread::join;
+
+/// A shape with two passes, and one collection of 64 slots.
+fn small(alloc: Global) -> Option<Shape>
+    ensures { IfSome result (λ shape. shape ≡ asked 2 (record { width = 1; slots = 64 } ∷ [])) }
+{
+    let colls = Vec::from_slice(
+        alloc,
+        &[CollShape {
+            width: 1,
+            slots: 64,
+        }],
+    );
+    match colls {
+        Ok(colls) => match Shape::new(2, colls) {
+            Ok(shape) => Some(shape),
+            Err(_) => None,
+        },
+        Err(_) => None,
+    }
+}
+
+/// Enters and leaves so many times, and tries to advance in between. Answers how often it moved the epoch on.
+fn work(region: &Region, pass: Pass, rounds: u32) -> (Pass, u64)
+    requires { IsPassOf region.now pass }
+    ensures here { IsPassOf region.now result.0 × (result.0.number ≡ pass.number) }
+    ensures events { length result.0.local.log ≡ length pass.local.log + 2 * rounds }
+{
+    let mut pass = pass;
+    let mut moved = 0u64;
+    for _ in 0..rounds {
+        pass = pass.enter(region).leave();
+        if let Advance::Advanced { .. } = pass.advance(region) {
+            moved = moved.wrapping_add(1);
+        }
+    }
+    (pass, moved)
+}
+
+#[test]
+fn two_threads_step_on_one_region(rt: HostRuntime) -> Result<(), AllocError> {
+    let alloc = rt.alloc();
+    let Some(shape) = small(alloc) else {
+        return Err(AllocError);
+    };
+    let Ok((region, mut passes)) = Region::open(alloc, shape, Opening::plain()) else {
+        return Err(AllocError);
+    };
+    let Some(second) = passes.pop() else {
+        unreachable!()
+    };
+    let Some(first) = passes.pop() else {
+        unreachable!()
+    };
+    let ((first, one), (second, other)) = join(
+        &rt,
+        || work(&region, first, 1_000),
+        || work(&region, second, 1_000),
+    );
+    passes.push(first)?;
+    passes.push(second)?;
+    let quiet = region.close(passes);
+    assert_eq!(rt; quiet.word(0), 2 + one + other);
+    assert_eq!(rt; (quiet.word(2), quiet.word(3)), (0, 0));
+    quiet.free();
+    Ok(())
+}
+
+#[test]
+fn an_advance_waits_for_a_section_and_ends_at_the_last_epoch(
+    rt: HostRuntime,
+) -> Result<(), AllocError> {
+    let alloc = rt.alloc();
+    let opening = Opening {
+        epoch: LAST_EPOCH - 1,
+        incarnation: 0,
+    };
+    let Some(shape) = small(alloc) else {
+        return Err(AllocError);
+    };
+    let Ok((region, mut passes)) = Region::open(alloc, shape, opening) else {
+        return Err(AllocError);
+    };
+    let Some(mut second) = passes.pop() else {
+        unreachable!()
+    };
+    let Some(first) = passes.pop() else {
+        unreachable!()
+    };
+    let section = first.enter(&region);
+    assert_eq!(rt; (section.pass(), section.epoch(), section.calm()), (0, LAST_EPOCH - 1, true));
+    assert_eq!(rt; (section.scans(), section.cursor(0)), (0, 0));
+    let epoch = LAST_EPOCH;
+    assert_eq!(rt; second.advance(&region), Advance::Advanced { epoch });
+    assert_eq!(rt; second.advance(&region), Advance::Spent);
+    assert_eq!(rt; section.leave().number(), 0);
+    Ok(())
+}
+
+#[test]
+fn what_is_not_there_is_none(rt: HostRuntime) -> Result<(), AllocError> {
+    let alloc = rt.alloc();
+    let Some(shape) = small(alloc) else {
+        return Err(AllocError);
+    };
+    let Ok((region, mut passes)) = Region::open(alloc, shape, Opening::plain()) else {
+        return Err(AllocError);
+    };
+    let Some(pass) = passes.pop() else {
+        unreachable!()
+    };
+    let mut section = pass.enter(&region);
+    for (coll, entry) in [(0, 0), (0, 64), (7, 0)] {
+        let number = Number {
+            incarnation: 1,
+            entry,
+            coll,
+        };
+        assert!(rt; section.deref(number).is_none(), "{number:?}");
+    }
+    Ok(())
+}
