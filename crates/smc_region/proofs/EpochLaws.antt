@@ -1,7 +1,10 @@
 -- What the epoch rule says of an epoch that a step was shown.
-use Rattle.std.proofs.Common.{◌≡◌, ◌≢◌, ℕ, ◌<◌, ◌≤◌, Some, List, refl, sym, ap, ◌∙◌, subst, arith}
+use Rattle.std.proofs.Common.{◌≡◌, ◌≢◌, ℕ, ◌+◌, ◌<◌, ◌≤◌, Some, List, refl, sym, ap, ◌∙◌, subst, arith}
 use Rattle.std.specs.Prelude.{true, IsTrue, slice_index}
+use Rattle.std.proofs.lemmas.Bool.Decides.{nat_tests}
 use Rattle.std.proofs.lemmas.Option.{slice_get_within}
+use Rattle.atomic_table.specs.Seated.{TableId}
+use Rattle.atomic_table.specs.Table.{Me}
 use Rattle.smc_shape.specs.Layout.{Layout}
 use Rattle.smc_shape.specs.Places.{at}
 use Rattle.smc_shape.specs.declared.place.Place.TheVariants as place
@@ -13,6 +16,7 @@ use Rattle.smc_core.specs.declared.phase.Phase.TheVariants as phase
 use Rattle.smc_core.specs.declared.section.TheConstants.{LAST_EPOCH}
 use Rattle.smc_core.specs.declared.word.Word.{Word}
 use Rattle.smc_core.specs.declared.word.Word.TheVariants as word
+use Rattle.smc_core.specs.Change.{advance_next}
 use Rattle.smc_core.specs.Row.{packed, row_shows, Suits}
 use Rattle.smc_core.specs.Words.{plain_of}
 use Rattle.smc_rules.specs.EpochRule.{EpochRule, advance_from}
@@ -20,7 +24,11 @@ use Rattle.smc_rules.specs.Reads.{epoch_of_region}
 use Rattle.smc_rules.specs.State.{Backed}
 use Rattle.smc_inv_epoch.specs.Epochs.{is_first}
 use Rattle.smc_inv_epoch.proofs.EveryList.{rule-reached}
+use Rattle.smc_region.specs.declared.advance.Advance.TheVariants.{Advanced, Overtaken}
+use Rattle.smc_region.specs.Advances.{Advances, SawNumber, advancing}
+use Rattle.smc_region.specs.Callers.{Caller, IsSeatOf, caller_of}
 use Rattle.smc_region.specs.Reached.{From, Saw}
+use Rattle.smc_region.proofs.Closes.{caller_seat}
 use Rattle.smc_region.specs.declared.law.View.{View}
 use Rattle.smc_region.specs.Views.{one}
 
@@ -59,3 +67,28 @@ saw_later shape pass l from e v w ready s ne =
     let least = b.rule.advance pass from (omega (arith, count, within)) stands in
     let is = ap plain_of s.is ∙ epoch-is view s.from in
     omega (arith, least, is, ne)
+
+-- what a seat saw, its pass saw
+pub caller_saw : (number : ℕ) (table : TableId) (me : Me (Unit {0}) View) (v : Caller) (op : Op) (w : Word) → caller_of number table me ≡ v → IsSeatOf number me → Saw me.0 op w → Saw (one v.shape v.number v.local) op w
+caller_saw number table me v op w is seat saw = subst (λ (m : Me (Unit {0}) View). Saw m.0 op w) (caller_seat number table me v is seat) saw
+
+-- the first load of an advance
+pub first_load : (old : Caller) (w : Word) (from : ℕ) → from ≡ plain_of w → Saw (one old.shape old.number old.local) (Load place.Epoch) w → SawNumber old place.Epoch from
+first_load old w from is saw = record { before = old.local; op = Load place.Epoch; seen = w; here = refl; saw = saw; is = sym is }
+
+-- behind the last section word an advance is ready
+ready-next : (shape : Layout) (epoch other : ℕ) → shape.passes ≤ other → advance_next shape epoch other ≡ phase.Ready epoch
+ready-next shape epoch other le = grind (arith, nat_tests)
+
+module _ (old : Caller) (epoch other : ℕ) (w : Word) (first : SawNumber old place.Epoch epoch) (low : epoch < LAST_EPOCH)
+    (saw : Saw (one old.shape old.number (advancing old.shape old.local epoch other)) (Exchange place.Epoch (word.Plain epoch) (word.Plain (epoch + 1))) w) where
+  at_end : SawNumber old place.Epoch (plain_of w)
+  at_end = record { before = advancing old.shape old.local epoch other; op = Exchange place.Epoch (word.Plain epoch) (word.Plain (epoch + 1)); seen = w; here = refl; saw = saw; is = refl }
+
+  pub moved_on : (seen : ℕ) → seen ≡ plain_of w → seen ≡ epoch → Advances old (Advanced (epoch + 1))
+  moved_on seen is same = record { from = epoch; first = first; cause = ((λ e. omega arith), refl, subst (λ (n : ℕ). SawNumber old place.Epoch n) (sym is ∙ same) at_end) }
+
+  pub overtaken : (seen : ℕ) → old.shape.passes ≤ other → seen ≡ plain_of w → seen ≢ epoch → Advances old (Overtaken seen)
+  overtaken seen last is ne =
+      let later = saw_later old.shape old.number (advancing old.shape old.local epoch other) epoch (word.Plain epoch) (word.Plain (epoch + 1)) w (ready-next old.shape epoch other last) saw (λ e. ne (is ∙ e)) in
+      record { from = epoch; first = first; cause = ((λ e. omega arith), omega (arith, later, is), subst (λ (n : ℕ). SawNumber old place.Epoch n) (sym is) at_end) }

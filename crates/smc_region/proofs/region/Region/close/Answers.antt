@@ -16,9 +16,9 @@ join_seat-requires c =
     let front = c.pop-in-loop-pass.new.self.items in
     let region = c.args.self in
     let is = i.1 ∙ ap (λ (xs : List Caller). xs ++ i.0) c.in-Some-pop.ensures.items in
-    let next = next_pass region c.args.passes.items front i.0 pass c.requires is in
+    let next = next_pass region c.args.passes.items front i.0 pass c.requires.all is in
     let mine = caller_seat x.number x.seat.table_id x.seat.me pass c.pass.view_is c.pass.invariant.0 in
-    let other = next_seat region c.args.passes.items front i.0 pass x.seat.me c.requires is mine in
+    let other = next_seat region c.args.passes.items front i.0 pass x.seat.me c.requires.all is mine in
     let sized = region.sized in
     let some = some_words region.about.shape in
     let key = region.table.shared.key in (
@@ -40,7 +40,7 @@ loop-pass-preserved c =
     let shape = region.about.shape in
     let is = i.1 ∙ ap (λ (xs : List Caller). xs ++ i.0) c.in-Some-pop.ensures.items in
     let mine = caller_seat x.number x.seat.table_id x.seat.me pass c.pass.view_is c.pass.invariant.0 in
-    let other = next_seat region c.args.passes.items front i.0 pass x.seat.me c.requires is mine in
+    let other = next_seat region c.args.passes.items front i.0 pass x.seat.me c.requires.all is mine in
     let longer = ap length c.in-Some-pop.ensures.items ∙ length-append front (pass ∷ []) in (
       pass ∷ i.0,
       is ∙ append_assoc front (pass ∷ []) i.0,
@@ -62,4 +62,4 @@ returns-clause-reached c =
     let seat = all_joined c.args.self.about.shape c.args.passes.items c.loop-pass.passes.items i.0 c.loop-pass.seat.me (omega arith) i.1 i.2 in
     let end = c.close_with-closed.ensures.values.2 in
     rw c.of-last.ensures (reached_at_end c.args.self.table.shared.key c.args.self.about c.loop-pass.seat.id c.args.passes.items c.loop-pass.seat.me (slots_items c.close_with-closed.result.words) end.0
-    c.args.self.keyed c.requires.count seat end.1 end.2)
+    c.args.self.keyed c.requires.all.count seat end.1 end.2)
