@@ -41,6 +41,7 @@ fn read_fields(section: &mut Section<'_>, held: Held, width: u32, turns: u32) ->
     let number = held.number();
     let slot = held.place();
     let mut sum = 0u64;
+    let _ = section.calm();
     for _ in 0..turns {
         for field in 0..width {
             let load = Op::Load {

@@ -25,6 +25,7 @@ impl<'r> Section<'r> {
         ensures same { IsSame self.old self.new }
         ensures looks { LooksUp (slot_found result) number self.old.local self.new.local }
         ensures decided { Decided self.new number (is_some result) }
+        ensures idle { self.new.local.stand.phase ≡ phase.Idle }
         ensures number { IfSome result (λ held. held.number ≡ number) }
         ensures holds { IfSome result (λ held. held_slot self.new.local.stand.held number ≡ Some held.place) }
     {

@@ -1,6 +1,7 @@
 //! A pass inside a section.
 ghost use Rattle.std.specs.Prelude.{◌≡◌, ◌<◌, Some, length, slice_get};
 ghost use Rattle.smc_core.specs.declared.phase.Phase.TheVariants.{Idle};
+ghost use Rattle.smc_core.specs.declared.section.Section.TheVariants.{Inside};
 ghost use Rattle.smc_core.specs.Local.{after};
 ghost use Rattle.smc_core.specs.Machine.{local_offer};
 ghost use Rattle.smc_core.specs.Row.{OpFits};
@@ -113,7 +114,8 @@ impl<'r> Section<'r> {
 
     /// Whether the section is calm: no object is locked while it lasts.
     pub fn calm(&self) -> bool
-        ensures { result ≡ is_calm self.now.local.stand.section }
+        ensures calm { result ≡ is_calm self.now.local.stand.section }
+        ensures inside { self.now.local.stand.section ≡ Inside (epoch_of self.now.local.stand.section) result }
     {
         self.calm
     }

@@ -8,6 +8,7 @@ use Rattle.bench_region.proofs.read_fields.Given as goal
 abbrev pub invariant-loop : goal.invariant-loop
 invariant-loop l = record {
   same : IsSame l.fn.section l.section;
+  inside : l.section.local.stand.section ≡ l.fn.section.local.stand.section;
   idle : l.section.local.stand.phase ≡ Idle;
   held : held_slot l.section.local.stand.held l.number ≡ Some l.slot;
 }
@@ -15,6 +16,7 @@ invariant-loop l = record {
 abbrev pub invariant-loop-field : goal.invariant-loop-field
 invariant-loop-field l = record {
   same : IsSame l.fn.section l.section;
+  inside : l.section.local.stand.section ≡ l.fn.section.local.stand.section;
   idle : l.section.local.stand.phase ≡ Idle;
   held : held_slot l.section.local.stand.held l.number ≡ Some l.slot;
 }

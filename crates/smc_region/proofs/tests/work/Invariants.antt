@@ -4,7 +4,7 @@ use Rattle.smc_region.proofs.tests.work.Given as goal
 
 abbrev pub invariant-loop : goal.invariant-loop
 invariant-loop l = record {
-  here : IsPassOf l.region.now l.pass;
+  here : IsPassOf l.region l.pass;
   number : l.pass.number ≡ l.fn.pass.number;
   events : length l.pass.local.log ≡ length l.fn.pass.local.log + 2 * l.counter;
 }
