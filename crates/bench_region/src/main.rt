@@ -1,6 +1,7 @@
-//! A bench, which `bench/act.sh` reads: enters and leaves a section so many times, and loads the fields of an object.
+//! A bench, which `bench/act.sh` reads: enters and leaves a section ten million times, and has a loop
+//! that loads the fields of an object, of which the machine code is looked at.
 //!
-//! TURNS is the only word of the command line. It stands on `smc_region`, and nothing stands on it.
+//! Nothing stands on it.
 #![tactic(auto)]
 
 ghost use Rattle.std.specs.Prelude.{◌≡◌, ◌<◌, Some};

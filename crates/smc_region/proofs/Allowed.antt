@@ -1,5 +1,5 @@
 -- What the table asks of each operation.
-use Rattle.std.proofs.Common.{◌≡◌, ℕ, ◌<◌, ◌==◌, [], sym, subst, ap, ◌∙◌, arith}
+use Rattle.std.proofs.Common.{◌≡◌, ℕ, ◌<◌, ◌==◌, sym, subst, ap, ◌∙◌, arith}
 use Rattle.std.specs.Prelude.{Some, None}
 use prog.Atomic.{either}
 use Rattle.atomic_table.specs.Table.{Me, Allows}
@@ -11,7 +11,7 @@ use Rattle.smc_shape.proofs.PlaceLaws.{at-lt}
 use Rattle.smc_core.specs.declared.call.Choice.{Choice}
 use Rattle.smc_core.specs.declared.local.Opening.{Opening}
 use Rattle.smc_core.specs.declared.op.Op.{Op}
-use Rattle.smc_core.specs.declared.op.Op.TheVariants.{Load, Store, Exchange, MarkGone}
+use Rattle.smc_core.specs.declared.op.Op.TheVariants.{Store, Exchange}
 use Rattle.smc_core.specs.declared.word.Word.{Word}
 use Rattle.smc_core.specs.declared.word.Word.TheVariants as word
 use Rattle.smc_core.specs.Row.{OpFits, Suits, place_of, packed, put}

@@ -1,5 +1,5 @@
 -- All passes are joined, and the region is closed.
-use Rattle.std.proofs.Common.{◌≡◌, ℕ, zero, suc, ◌+◌, ◌<◌, List, [], ◌∷◌, ◌++◌, length, refl, sym, ap, ◌∙◌, subst, arith, append_assoc, add-zero}
+use Rattle.std.proofs.Common.{◌≡◌, ℕ, zero, suc, ◌+◌, List, [], ◌∷◌, ◌++◌, length, refl, sym, ap, ◌∙◌, subst, arith, append_assoc, add-zero}
 use Rattle.std.specs.Prelude.{Some, slice_get, slice_index}
 use Rattle.std.specs.List.{AllByRecursion}
 use mathlib.Core.Option.{some, some-injective, some-ne-none}
@@ -36,7 +36,7 @@ caller_seat number table me v is seat = seat.is ∙ (λ i. (one (is i).shape (is
 
 -- the last pass of the list, which is taken in next
 pub next_pass : (region : Region) (all front rest : List Caller) (c : Caller) → AreAll region all → all ≡ (front ++ c ∷ []) ++ rest → IsPassOf region c × (c.number ≡ length front)
-next_pass region all front rest c are is = are.each (length front) c (subst (λ (cs : List Caller). slice_get cs (length front) ≡ Some c) (sym (is ∙ append_assoc front (c ∷ []) rest)) (get-here front rest c))
+next_pass region all front rest c are is = are.1 (length front) c (subst (λ (cs : List Caller). slice_get cs (length front) ≡ Some c) (sym (is ∙ append_assoc front (c ∷ []) rest)) (get-here front rest c))
 
 same-lists : {A : Type 0} (xs ys : List A) → length xs ≡ length ys → ((k : ℕ) (y : A) → slice_get ys k ≡ Some y → slice_get xs k ≡ Some y) → xs ≡ ys
 same-lists [] [] len h = refl

@@ -1,6 +1,6 @@
 -- What the epoch rule says of an epoch that a step was shown.
-use Rattle.std.proofs.Common.{◌≡◌, ◌≢◌, ℕ, ◌+◌, ◌<◌, ◌≤◌, Some, List, refl, sym, ap, ◌∙◌, subst, arith}
-use Rattle.std.specs.Prelude.{true, IsTrue, slice_index}
+use Rattle.std.proofs.Common.{◌≡◌, ◌≢◌, ℕ, ◌+◌, ◌<◌, ◌≤◌, refl, sym, ap, ◌∙◌, subst, arith}
+use Rattle.std.specs.Prelude.{slice_index}
 use Rattle.std.proofs.lemmas.Bool.Decides.{nat_tests}
 use Rattle.std.proofs.lemmas.Option.{slice_get_within}
 use Rattle.atomic_table.specs.Seated.{TableId}
@@ -17,7 +17,7 @@ use Rattle.smc_core.specs.declared.section.TheConstants.{LAST_EPOCH}
 use Rattle.smc_core.specs.declared.word.Word.{Word}
 use Rattle.smc_core.specs.declared.word.Word.TheVariants as word
 use Rattle.smc_core.specs.Change.{advance_next}
-use Rattle.smc_core.specs.Row.{packed, row_shows, Suits}
+use Rattle.smc_core.specs.Row.{packed, Suits}
 use Rattle.smc_core.specs.Words.{plain_of}
 use Rattle.smc_rules.specs.EpochRule.{EpochRule, advance_from}
 use Rattle.smc_rules.specs.Reads.{epoch_of_region}

@@ -1,5 +1,5 @@
 -- Each step of the machine keeps the rule of the table.
-use Rattle.std.proofs.Common.{◌≡◌, ◌≢◌, ℕ, true, Some, List, [], ◌∷◌, set, refl, sym, ap, ◌∙◌, subst, ⊎_elim}
+use Rattle.std.proofs.Common.{◌≡◌, ◌≢◌, ℕ, true, Some, List, [], ◌∷◌, refl, sym, ap, ◌∙◌, subst, ⊎_elim}
 use Rattle.std.specs.Prelude.{Bool, Option, None, slice_get, slice_set, slice_index, if◌then◌else◌}
 use Rattle.std.specs.List.{AllByRecursion}
 use mathlib.Core.Option.{some}
@@ -48,15 +48,14 @@ pub notes : (shape : Layout) (locals : List Local) (pass : ℕ) (l : Local) (cho
     → slice_get locals pass ≡ Some l → IsOwn choice
     → AllByRecursion (HoldsNote locals noter seat) ns → AllByRecursion (HoldsNote (slice_set locals pass (after shape pass l choice told w)) noter seat) ns
 notes shape locals pass l choice told w noter seat [] here own h = tt
-notes shape locals pass l choice told w noter seat (n ∷ ns) here own (h, hs) = let new : Local = after shape pass l choice told w in
-    (
-      record {
-        owned = h.owned;
-        has = note-stays locals pass l new (change shape pass l.stand l.stand.section l.stand.phase choice told w).event choice n.pass n.number n.log here refl refl h.has;
-        unlearnt = is_learnt-set locals pass l new n.pass n.number here (own-learnt l.learnt choice own) ∙ h.unlearnt;
-      },
-      notes shape locals pass l choice told w noter seat ns here own hs,
-    )
+notes shape locals pass l choice told w noter seat (n ∷ ns) here own (h, hs) = let new : Local = after shape pass l choice told w in (
+  record {
+    owned = h.owned;
+    has = note-stays locals pass l new (change shape pass l.stand l.stand.section l.stand.phase choice told w).event choice n.pass n.number n.log here refl refl h.has;
+    unlearnt = is_learnt-set locals pass l new n.pass n.number here (own-learnt l.learnt choice own) ∙ h.unlearnt;
+  },
+  notes shape locals pass l choice told w noter seat ns here own hs,
+)
 
 abbrev pub Rule : Layout → Opening → State (Unit {0}) View → Type 0
 Rule shape opening s = Kept shape opening s.words s.views

@@ -1,5 +1,5 @@
 -- What an offered step leaves of a section.
-use Rattle.std.proofs.Common.{◌≡◌, ℕ, suc, ◌+◌, Bool, true, false, Option, Some, None, List, [], ◌∷◌, length, refl, sym, ap, ◌∙◌, subst, arith}
+use Rattle.std.proofs.Common.{◌≡◌, ℕ, suc, ◌+◌, Bool, true, false, Option, Some, None, List, [], ◌∷◌, length, refl, sym, ap, subst}
 use Rattle.std.specs.Prelude.{IfSome, slice_get, nat_lt, ◌&&◌, ◌==◌, if◌then◌else◌}
 use Rattle.std.proofs.lemmas.List.{length-append}
 use Rattle.std.proofs.lemmas.Option.{none-some}
@@ -44,13 +44,13 @@ use Rattle.smc_core.specs.Add.{is_value, takes, add_offer}
 use Rattle.smc_core.specs.Begin.{begin_offer}
 use Rattle.smc_core.specs.Cancel.{cancel_offer}
 use Rattle.smc_core.specs.Count.{count_offer}
-use Rattle.smc_core.specs.Finish.{finish_offer, finish_start, is_early}
+use Rattle.smc_core.specs.Finish.{finish_offer, is_early}
 use Rattle.smc_core.specs.Local.{section_after, scans_after, next_after, cursors_after}
 use Rattle.smc_core.specs.Look.{copy_offer, look_offer, look_finding, seeker_of}
-use Rattle.smc_core.specs.Offer.{go_offer, start_offer, offer, when_idle, held_slot, look_start}
+use Rattle.smc_core.specs.Offer.{go_offer, start_offer, offer, when_idle, held_slot}
 use Rattle.smc_core.specs.Remove.{remove_offer}
 use Rattle.smc_core.specs.Row.{has_place}
-use Rattle.smc_core.specs.Scan.{scan_offer, next_offer, is_over, is_scanned, passed, ended, scan_of, scan_scans, look_scans, next_scans}
+use Rattle.smc_core.specs.Scan.{scan_offer, is_over, is_scanned, passed, ended, scan_of, scan_scans, look_scans}
 use Rattle.smc_core.specs.Section.{epoch_of, is_calm}
 use Rattle.smc_core.specs.Words.{dir_of, back_of}
 use Rattle.smc_shape.specs.declared.place.Place.TheVariants as place

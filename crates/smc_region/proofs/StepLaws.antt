@@ -1,6 +1,6 @@
 -- What one more step leads to, and what it leaves of local states, notes and words.
-use Rattle.std.proofs.Common.{◌≡◌, ◌≢◌, ℕ, zero, suc, Bool, true, false, Option, Some, None, List, [], ◌∷◌, ◌++◌, length, refl, sym, ap, ◌∙◌, subst, append_assoc}
-use Rattle.std.specs.Prelude.{slice_get, slice_index, slice_set, if◌then◌else◌, ◌||◌}
+use Rattle.std.proofs.Common.{◌≡◌, ◌≢◌, ℕ, zero, suc, Bool, Option, Some, None, List, [], ◌∷◌, ◌++◌, length, refl, sym, ap, ◌∙◌, subst, append_assoc}
+use Rattle.std.specs.Prelude.{slice_get, slice_set, ◌||◌}
 use Rattle.std.proofs.lemmas.List.{append-nil}
 use Rattle.smc_shape.specs.Layout.{Layout}
 use Rattle.smc_model.specs.declared.event.Event.{Event}

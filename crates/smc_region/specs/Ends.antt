@@ -24,6 +24,5 @@ states_of [] = []
 states_of (x ∷ later) = x.1 ∷ states_of later
 
 -- these are all passes of the region, in order
-pub record AreAll (region : Region) (passes : List Caller) : Type 0 where
-  pub count : length passes ≡ region.about.shape.passes
-  pub each : (k : ℕ) (pass : Caller) → slice_get passes k ≡ Some pass → IsPassOf region pass × (pass.number ≡ k)
+abbrev pub AreAll : Region → List Caller → Type 0
+AreAll region passes = (length passes ≡ region.about.shape.passes) × ((k : ℕ) (pass : Caller) → slice_get passes k ≡ Some pass → IsPassOf region pass × (pass.number ≡ k))

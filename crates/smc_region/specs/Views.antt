@@ -1,5 +1,5 @@
 -- What a seat of the table knows, its view: the local states of passes, and notes.
-use Rattle.std.specs.Prelude.{◌≡◌, ℕ, ◌+◌, Option, Some, None, List, [], ◌∷◌, ◌++◌, map, length, replicate}
+use Rattle.std.specs.Prelude.{◌≡◌, ℕ, ◌+◌, Option, Some, None, List, [], ◌∷◌, ◌++◌, map, replicate}
 use Rattle.atomic_table.specs.Table.{Me}
 use Rattle.smc_shape.specs.Layout.{Layout}
 use Rattle.smc_model.specs.declared.event.Event.{Event}

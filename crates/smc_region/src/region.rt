@@ -9,7 +9,6 @@ ghost use Rattle.smc_region.specs.Views.{IsAlone, view_after, view_op};
 
 use crate::chosen::Chosen;
 use crate::law::{About, Acts, Choosing, Law, View};
-
 use atomic_table::{Seat, Table};
 use smc_core::{Op, Word};
 use smc_row::{packed, unpacked};

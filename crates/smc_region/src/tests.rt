@@ -1,14 +1,13 @@
-ghost use Rattle.std.specs.Prelude.{◌≡◌, ◌+◌, ◌*◌, ◌∷◌, [], IfSome, Some, length, slice_get};
+ghost use Rattle.std.specs.Prelude.{◌≡◌, ◌+◌, ◌*◌, ◌∷◌, [], IfSome, length};
 ghost use Rattle.smc_shape.specs.Layout.{asked};
-ghost use Rattle.smc_core.specs.Machine.{IsOpening};
 ghost use Rattle.smc_region.specs.Callers.{IsPassOf};
 
 use crate::{Advance, Pass, Region};
 use smc_core::{LAST_EPOCH, Opening};
 use smc_shape::{CollShape, Shape};
-use smc_words::Number;
+use smc_words::{NoMemory, Number};
 use std::alloc::{AllocError, Global};
-use std::thread::join;
+use std::thread::{Threads, join};
 
 /// A shape with two passes, and one collection of 64 slots.
 fn small(alloc: Global) -> Option<Shape>
@@ -47,32 +46,43 @@ fn work(region: &Region, pass: Pass, rounds: u32) -> (Pass, u64)
     (pass, moved)
 }
 
+/// Each in a thread of its own.
+fn work_both<R: Threads + Sync>(
+    rt: &R,
+    region: &Region,
+    first: Pass,
+    second: Pass,
+    rounds: u32,
+) -> ((Pass, u64), (Pass, u64))
+    requires first { IsPassOf region.now first }
+    requires second { IsPassOf region.now second }
+    ensures first { IsPassOf region.now result.0.0 × (result.0.0.number ≡ first.number)
+        × (length result.0.0.local.log ≡ length first.local.log + 2 * rounds) }
+    ensures second { IsPassOf region.now result.1.0 × (result.1.0.number ≡ second.number)
+        × (length result.1.0.local.log ≡ length second.local.log + 2 * rounds) }
+{
+    join(
+        rt,
+        || work(region, first, rounds),
+        || work(region, second, rounds),
+    )
+}
+
 #[test]
-fn two_threads_step_on_one_region(rt: HostRuntime) -> Result<(), AllocError> {
-    let alloc = rt.alloc();
-    let Some(shape) = small(alloc) else {
-        return Err(AllocError);
+fn two_threads_step_on_one_region(rt: HostRuntime) -> Result<(), NoMemory> {
+    let Some(shape) = small(rt.alloc()) else {
+        return Err(NoMemory);
     };
-    let Ok((region, mut passes)) = Region::open(alloc, shape, Opening::plain()) else {
-        return Err(AllocError);
-    };
+    let (region, mut passes) = Region::open(rt.alloc(), shape, Opening::plain())?;
     let Some(second) = passes.pop() else {
-        unreachable!()
+        return Err(NoMemory);
     };
     let Some(first) = passes.pop() else {
-        unreachable!()
+        return Err(NoMemory);
     };
-    let ((first, one), (second, other)) = join(
-        &rt,
-        || work(&region, first, 1_000),
-        || work(&region, second, 1_000),
-    );
-    passes.push(first)?;
-    passes.push(second)?;
-    let quiet = region.close(passes);
-    assert_eq!(rt; quiet.word(0), 2 + one + other);
-    assert_eq!(rt; (quiet.word(2), quiet.word(3)), (0, 0));
-    quiet.free();
+    let ((first, one), (_, other)) = work_both(&rt, &region, first, second, 1_000);
+    let section = first.enter(&region);
+    assert_eq!(rt; section.epoch(), one.wrapping_add(other).wrapping_add(2));
     Ok(())
 }
 
@@ -98,7 +108,10 @@ fn an_advance_waits_for_a_section_and_ends_at_the_last_epoch(
         unreachable!()
     };
     let section = first.enter(&region);
-    assert_eq!(rt; (section.pass(), section.epoch(), section.calm()), (0, LAST_EPOCH - 1, true));
+    assert_eq!(rt;
+        (section.pass(), section.epoch(), section.calm()),
+        (0, LAST_EPOCH - 1, true)
+    );
     assert_eq!(rt; (section.scans(), section.cursor(0)), (0, 0));
     let epoch = LAST_EPOCH;
     assert_eq!(rt; second.advance(&region), Advance::Advanced { epoch });

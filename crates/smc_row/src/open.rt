@@ -50,11 +50,7 @@ fn push_coll(numbers: &mut Vec<u64>, shape: &Shape, c: u8, free: u64) -> Result<
 }
 
 /// So many copies of an element go behind the others.
-fn push_copies<T: Copy>(
-    list: &mut Vec<T>,
-    copies: usize,
-    element: T,
-) -> Result<(), NoMemory>
+fn push_copies<T: Copy>(list: &mut Vec<T>, copies: usize, element: T) -> Result<(), NoMemory>
     ensures { OnOk result (list.new.items ≡ list.old.items ++ replicate copies element) }
 {
     let Some(length) = list.len().checked_add(copies) else {

@@ -15,8 +15,7 @@ load-found-requires g c =
     let fits : OpFits shape op = subst (OpFits shape) c.in-Load.is c.requires.fits in
     let key = c.args.region.now.table.shared.key in
     let table = c.args.region.now.table.shared.table_id in
-    let seat = c.args.seat.now in
-    (
+    let seat = c.args.seat.now in (
       c.requires.here,
       index_below shape op c.at.result table.words c.requires.valid fits c.at.ensures c.args.region.now.sized,
       allowed key.shape shape key.opening table.slots seat.id seat.me g.C.Choosing.choice (seat_choice seat.me.0 c.args.chosen) g.C.Choosing.op op c.at.result c.requires.chosen (c.requires.named ∙ c.in-Load.is) c.requires.shape c.at.ensures c.requires.own c.requires.alone (c.requires.offers ∙ ap (λ (x : Op). Some x) c.in-Load.is),
@@ -39,8 +38,7 @@ store-requires g c =
     let fits : OpFits shape op = subst (OpFits shape) c.in-Store.is c.requires.fits in
     let key = c.args.region.now.table.shared.key in
     let table = c.args.region.now.table.shared.table_id in
-    let seat = c.args.seat.now in
-    (
+    let seat = c.args.seat.now in (
       c.requires.here,
       index_below shape op c.at-in-Store.result table.words c.requires.valid fits c.at-in-Store.ensures c.args.region.now.sized,
       stores key.shape shape key.opening table.slots seat.id seat.me g.C.Choosing.choice (seat_choice seat.me.0 c.args.chosen) g.C.Choosing.op c.in-Store.place c.in-Store.word c.at-in-Store.result c.packed.result c.requires.chosen (c.requires.named ∙ c.in-Store.is) c.requires.shape c.at-in-Store.ensures c.packed.ensures c.requires.own c.requires.alone (c.requires.offers ∙ ap (λ (x : Op). Some x) c.in-Store.is),
@@ -73,8 +71,7 @@ compare_exchange-found-requires g c =
     let fits : OpFits shape op = subst (OpFits shape) c.in-Exchange.is c.requires.fits in
     let key = c.args.region.now.table.shared.key in
     let table = c.args.region.now.table.shared.table_id in
-    let seat = c.args.seat.now in
-    (
+    let seat = c.args.seat.now in (
       c.requires.here,
       index_below shape op c.at-in-Exchange.result table.words c.requires.valid fits c.at-in-Exchange.ensures c.args.region.now.sized,
       exchanges key.shape shape key.opening table.slots seat.id seat.me g.C.Choosing.choice (seat_choice seat.me.0 c.args.chosen) g.C.Choosing.op c.in-Exchange.place c.in-Exchange.expect c.in-Exchange.put c.at-in-Exchange.result c.packed-expect.result c.packed-put.result c.requires.chosen (c.requires.named ∙ c.in-Exchange.is) c.requires.shape c.at-in-Exchange.ensures c.packed-expect.ensures c.packed-put.ensures c.requires.own c.requires.alone (c.requires.offers ∙ ap (λ (x : Op). Some x) c.in-Exchange.is),
@@ -87,8 +84,7 @@ fetch_or-found-requires g c =
     let fits : OpFits shape op = subst (OpFits shape) c.in-MarkGone.is c.requires.fits in
     let key = c.args.region.now.table.shared.key in
     let table = c.args.region.now.table.shared.table_id in
-    let seat = c.args.seat.now in
-    (
+    let seat = c.args.seat.now in (
       c.requires.here,
       index_below shape op c.at-in-MarkGone.result table.words c.requires.valid fits c.at-in-MarkGone.ensures c.args.region.now.sized,
       allowed key.shape shape key.opening table.slots seat.id seat.me g.C.Choosing.choice (seat_choice seat.me.0 c.args.chosen) g.C.Choosing.op op c.at-in-MarkGone.result c.requires.chosen (c.requires.named ∙ c.in-MarkGone.is) c.requires.shape c.at-in-MarkGone.ensures c.requires.own c.requires.alone (c.requires.offers ∙ ap (λ (x : Op). Some x) c.in-MarkGone.is),

@@ -1,4 +1,4 @@
-use Rattle.std.proofs.Common.{rules, ◌+◌, ◌≤◌, ℕ, ap, sym, ◌∙◌, subst, arith}
+use Rattle.std.proofs.Common.{rules, ◌+◌, ◌≤◌, ℕ, sym, subst, arith}
 use Rattle.atomic_table.specs.Table.{Me}
 use Rattle.smc_shape.specs.Layout.{Layout}
 use Rattle.smc_shape.specs.declared.place.Place.TheVariants as place
@@ -45,8 +45,8 @@ returns-clause-cause c =
     let last : v.shape.passes ≤ c.loop-pass.pass = subst (λ (t : Layout). t.passes ≤ c.loop-pass.pass) (sym c.requires.here.1)
     (subst (λ (n : ℕ). n ≤ c.loop-pass.pass) c.passes-pass-end.ensures.passes c.loop-pass-test.false) in
     elim c.if-seen-epoch-2.branch [
-      then-seen-epoch-2 w ↦ subst (λ (a : Advance). Advances v a) (sym w.result-is)
+      | then-seen-epoch-2 w ↦ subst (λ (a : Advance). Advances v a) (sym w.result-is)
           (moved_on v epoch c.loop-pass.pass c.step-2.result first c.loop-pass.invariant.low saw c.plain-seen-2.result c.plain-seen-2.ensures w.if-seen-epoch-2.true)
-    | else-seen-epoch-2 w ↦ subst (λ (a : Advance). Advances v a) (sym w.result-is)
+      | else-seen-epoch-2 w ↦ subst (λ (a : Advance). Advances v a) (sym w.result-is)
           (overtaken v epoch c.loop-pass.pass c.step-2.result first c.loop-pass.invariant.low saw c.plain-seen-2.result last c.plain-seen-2.ensures w.if-seen-epoch-2.false)
     ]

@@ -1,13 +1,11 @@
-use Rattle.std.proofs.Common.{rules, ℕ, ◌<◌, List, ◌∷◌, length, ap, sym, ◌∙◌, subst, arith}
+use Rattle.std.proofs.Common.{rules, ℕ, ◌<◌, List, length, ap, sym, ◌∙◌, subst, arith}
 use Rattle.std.proofs.lemmas.List.{length-replicate}
 use Rattle.atomic_table.specs.Table.{Me}
-use Rattle.smc_core.specs.Local.{fresh}
 use Rattle.smc_core.specs.Machine.{IsOpened}
 use Rattle.smc_region.specs.declared.law.View.{View}
 use Rattle.smc_region.specs.Callers.{new_caller}
 use Rattle.smc_region.specs.Reached.{From}
-use Rattle.smc_region.specs.Rule.{Kept}
-use Rattle.smc_region.specs.Views.{first_view, one, sole}
+use Rattle.smc_region.specs.Views.{sole}
 use Rattle.smc_region.proofs.Deals.{opens_rule, first_from, deal_step, deal_front, deal_behind, new_seat, push_at, new_caller_is, new_outside, some_words}
 use Rattle.smc_region.proofs.region.Region.open.Goals as goal
 

@@ -1,5 +1,4 @@
 use Rattle.std.proofs.Common.{◌≡◌}
-use Rattle.smc_shape.specs.Layout.{width_of}
 use Rattle.smc_region.specs.Callers.{IsSame}
 use Rattle.smc_region.specs.Looks.{helping}
 use Rattle.smc_region.proofs.section.Section.copy.Given as goal
