@@ -1,9 +1,7 @@
 -- Files of a shelf in memory, one after another.
-use Rattle.std.proofs.Common.{◌≡◌, ◌≢◌, ℕ, ◌+◌, ◌<◌, ◌≤◌, Bool, true, false, List, [], ◌∷◌, length, get_or, drop, suc, add-one, map, Option, Some, None, string_bytes, String, Vec, Global, refl, sym, ap, ◌∙◌, drop_of_length-le, arith}
+use Rattle.std.proofs.Common.{◌≡◌, ℕ, ◌+◌, ◌<◌, ◌≤◌, true, false, List, ◌∷◌, length, get_or, drop, suc, add-one, map, Some, None, string_bytes, String, Vec, Global, refl, sym, ap, ◌∙◌, drop_of_length-le}
 use Rattle.std.specs.Str.{bytes_eq}
 use Rattle.std.proofs.Math.Seq.{drop-cons}
-use Rattle.std.proofs.lemmas.Bool.Decides.{nat_tests}
-use Rattle.std.proofs.lemmas.Slice.Eq.{bytes_eq-Decides}
 use Rattle.smc_outside.specs.Shelves.{file_named}
 
 -- a file as it stands in memory

@@ -3,3 +3,4 @@ pub mod Told
 pub mod Pieces
 pub mod InMemory
 pub mod Shelves
+pub mod Folder

@@ -2,6 +2,6 @@ mod MarkLaws
 mod OutcomeLaws
 mod PlanTexts
 mod Deeper
-mod StopLaws
+pub mod StopLaws
 mod GrammarLaws
 mod ExampleLaws

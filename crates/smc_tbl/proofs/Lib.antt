@@ -15,3 +15,4 @@ pub mod PrintLaws
 pub mod FitLaws
 pub mod RespellLaws
 pub mod RoundTrip
+pub mod LengthLaws

@@ -1,12 +1,12 @@
 -- The one text in which a row is printed.
-use Rattle.std.specs.Prelude.{◌≡◌, ℕ, suc, ◌/◌, ◌%◌, ℤ, pos, negsuc, unsigned_abs, List, [], ◌∷◌, ◌++◌, decimal}
+use Rattle.std.specs.Prelude.{◌≡◌, ℕ, suc, ◌+◌, ◌/◌, ◌%◌, ℤ, pos, negsuc, unsigned_abs, List, [], ◌∷◌, ◌++◌, decimal, sum_by}
 use Rattle.smc_types.specs.Days.{SpellsDay, digits as two_digits}
 use Rattle.smc_types.specs.declared.column.FieldType.{FieldType}
-use Rattle.smc_types.specs.declared.column.FieldType.TheVariants.{Count, Amount, Rate, Day, Text}
+use Rattle.smc_types.specs.declared.column.FieldType.TheVariants.{Count, Amount, Rate, Day, Text, RefTo}
 use Rattle.smc_types.specs.declared.row.Value.{Value}
 use Rattle.smc_types.specs.declared.row.Value.TheVariants.{Number as OfNumber, Day as OfDay, Text as OfText}
 use Rattle.smc_tbl.specs.declared.bytes.TheConstants.{BAR}
-use Rattle.smc_tbl.specs.declared.numbers.TheConstants.{MINUS, POINT}
+use Rattle.smc_tbl.specs.declared.numbers.TheConstants.{AMOUNT_DIGITS, COUNT_DIGITS, DECIMALS, MINUS, POINT, RATE_DIGITS}
 
 -- hundredths with two decimals
 abbrev pub hundredths_text : ℕ → List ℕ
@@ -38,3 +38,24 @@ pub record PrintsBehind (kind : FieldType) (value : Value) (old new : List ℕ) 
   pub field : List ℕ
   pub grown : new ≡ old ++ field
   pub prints : PrintsValue kind value field
+
+-- how many bytes hundredths have with so many digits before the point, and two decimals
+abbrev pub hundredths_length : ℕ → ℕ
+hundredths_length most = most + 1 + DECIMALS
+
+-- how many bytes a day has: eight digits and two dashes
+abbrev pub day_length : ℕ
+day_length = 10
+
+-- how many bytes are printed at most of a value within its column; no value stands for a reference
+abbrev pub longest_value : FieldType → ℕ
+longest_value Count = COUNT_DIGITS
+longest_value Amount = 1 + hundredths_length AMOUNT_DIGITS
+longest_value Rate = hundredths_length RATE_DIGITS
+longest_value Day = day_length
+longest_value (Text width) = width
+longest_value (RefTo table) = 0
+
+-- how many bytes are printed at most of a row, with a bar behind each value
+abbrev pub longest_row : List FieldType → ℕ
+longest_row kinds = sum_by (λ kind. longest_value kind + 1) kinds

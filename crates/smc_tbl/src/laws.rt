@@ -1,12 +1,15 @@
 //! What holds of table text, as theorems over the definitions: functions with no body of their own, whose clauses are the laws.
-ghost use Rattle.std.specs.Prelude.{List, ℕ};
+ghost use Rattle.std.specs.Prelude.{◌≤◌, List, ℕ, length};
+ghost use Rattle.std.specs.List.{Contains};
 ghost use Rattle.smc_types.specs.declared.schema.Schema.{Schema};
 ghost use Rattle.smc_types.specs.Columns.{value_kinds};
+ghost use Rattle.smc_types.specs.declared.column.FieldType.{FieldType};
 ghost use Rattle.smc_types.specs.declared.row.Value.{Value};
-ghost use Rattle.smc_tbl.specs.Printed.{PrintsRow};
-ghost use Rattle.smc_tbl.specs.TableText.{GivesOne, IsShort, SpellsRow};
+ghost use Rattle.smc_types.specs.Tables.{the_tables};
+ghost use Rattle.smc_tbl.specs.Printed.{PrintsRow, longest_row};
+ghost use Rattle.smc_tbl.specs.TableText.{FitsColumns, GivesOne, IsShort, SpellsRow};
 
-use smc_types::laws::a_text_says_one_day;
+use smc_types::laws::{a_text_says_a_day_in_range, a_text_says_one_day};
 
 /// Every line gives one thing and no other: a row, or its first fault.
 pub fn one_reading()
@@ -20,3 +23,17 @@ pub fn a_printed_row_is_spelled()
     ensures { (schema : Schema) (row : List Value) (line printed : List ℕ) → SpellsRow schema line row
         → PrintsRow (value_kinds schema.columns) row printed → IsShort printed → SpellsRow schema printed row }
 {}
+
+/// A row within the ranges and widths of its columns is printed in so many bytes at most. In each of the eight tables
+/// these are no more than a line may have, so a row that a line spells is spelled by what is printed of it.
+pub fn a_printed_row_is_short()
+    ensures longest { (kinds : List FieldType) (row : List Value) (printed : List ℕ) → FitsColumns kinds row
+        → PrintsRow kinds row printed → length printed ≤ longest_row kinds }
+    ensures short { (schema : Schema) (row : List Value) (printed : List ℕ) → Contains the_tables.schemas schema
+        → FitsColumns (value_kinds schema.columns) row → PrintsRow (value_kinds schema.columns) row printed → IsShort printed }
+    ensures spelled { (schema : Schema) (row : List Value) (line printed : List ℕ) → Contains the_tables.schemas schema
+        → SpellsRow schema line row → PrintsRow (value_kinds schema.columns) row printed → SpellsRow schema printed row }
+{
+    // What a text says is within the range of a day.
+    a_text_says_a_day_in_range();
+}

@@ -8,18 +8,22 @@
 //! Callers may rely on it that a row is read exactly where a line spells it, that a fault is the first of its line, and
 //! that a row which was read fits the columns of its table. `specs/Fields.antt` defines what a field spells,
 //! `TableText.antt` what a line gives, `Reading.antt` and `Reader.antt` what was taken of a text, and `Printed.antt` the
-//! one text of a row.
+//! one text of a row with its greatest length.
 #![tactic(auto)]
 
 mod buffer;
 mod bytes;
 mod fault;
+#[cfg(test)]
+mod field_tests;
 mod fields;
 mod grammar;
 pub mod laws;
 mod lines;
 mod numbers;
 mod print;
+#[cfg(test)]
+mod reader_tests;
 #[cfg(test)]
 mod tests;
 

@@ -5,7 +5,7 @@ use Rattle.smc_tokens.specs.declared.token.Token.{Token}
 use Rattle.smc_tokens.specs.Tokens.{space, token_of, TakesToken, BeginsNoToken, PlacedToken, FallsInto, ended, spaced, taken, refused, FallsIntoOne}
 
 -- nothing is no token, nor is what begins with a space
-no-token : token_of [] ≡ None
+pub no-token : token_of [] ≡ None
 unfolding token_of
 no-token = refl
 
@@ -36,7 +36,7 @@ empty-taken : {count : ℕ} {token : Token} → TakesToken [] count token → �
 empty-taken {count = zero} t = let h = t.spelled in let g = no-token in cc
 empty-taken {count = suc count} t = let h = t.within in absurd (omega arith)
 
-abbrev record_of : Token → List PlacedToken → ℕ → List PlacedToken
+abbrev pub record_of : Token → List PlacedToken → ℕ → List PlacedToken
 record_of token tokens at = record { token = token; at = at } ∷ tokens
 
 same-way : {at end other : ℕ} {text rest left : List ℕ} {tokens more : List PlacedToken}

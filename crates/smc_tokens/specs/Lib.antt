@@ -1,2 +1,4 @@
+pub mod Front
 pub mod Marks
+pub mod TokenList
 pub mod Tokens

@@ -6,6 +6,7 @@ use Rattle.std.specs.Char.{is_ascii_digit, is_ascii_lowercase}
 use Rattle.std.specs.List.{list_all, prefix_len}
 use Rattle.smc_tokens.specs.Marks.{word_text, sign_text}
 use Rattle.smc_tokens.specs.declared.limits.TheConstants.{MAX_NAME, MAX_DIGITS, MAX_DECIMALS}
+use Rattle.smc_tokens.specs.declared.token.Placed.{Placed}
 use Rattle.smc_tokens.specs.declared.token.Token.{Token}
 use Rattle.smc_tokens.specs.declared.token.Token.TheVariants.{Name, Word, Date, Number, Text, Sign as OfSign}
 use Rattle.smc_tokens.specs.declared.reserved.Reserved.{Reserved}
@@ -165,9 +166,8 @@ BeginsNoToken text = (count : ℕ) → count ≤ length text → token_of (take 
 -- ---- a text
 
 -- a token, and the byte where it begins
-pub record PlacedToken : Type 0 where
-  pub token : Token
-  pub at : ℕ
+abbrev pub PlacedToken : Type 0
+PlacedToken = Placed
 
 -- From a byte on, a text falls into these tokens up to this byte: there it ends, or what is left begins no token.
 pub data FallsInto : ℕ → List ℕ → List PlacedToken → ℕ → List ℕ → Type 0 where

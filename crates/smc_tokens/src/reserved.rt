@@ -1,5 +1,6 @@
 ghost use Rattle.std.specs.Prelude.{◌≡◌};
 ghost use Rattle.smc_tokens.specs.Marks.{word_text, word_code};
+ghost use Rattle.smc_tokens.specs.Front.{spelled_word};
 
 /// A word that is no name.
 #[derive(Clone, Copy, Debug, Drop, PartialEq, Eq)]
@@ -25,6 +26,33 @@ pub enum Reserved {
 }
 
 impl Reserved {
+    /// The word that is written so.
+    pub fn of(text: &str) -> Option<Reserved>
+        ensures { result ≡ spelled_word text.now }
+    {
+        match text {
+            "from" => Some(Reserved::From),
+            "where" => Some(Reserved::Where),
+            "by" => Some(Reserved::By),
+            "show" => Some(Reserved::Show),
+            "sort" => Some(Reserved::Sort),
+            "first" => Some(Reserved::First),
+            "as" => Some(Reserved::As),
+            "and" => Some(Reserved::And),
+            "or" => Some(Reserved::Or),
+            "not" => Some(Reserved::Not),
+            "between" => Some(Reserved::Between),
+            "desc" => Some(Reserved::Desc),
+            "sum" => Some(Reserved::Sum),
+            "avg" => Some(Reserved::Avg),
+            "min" => Some(Reserved::Min),
+            "max" => Some(Reserved::Max),
+            "count" => Some(Reserved::Count),
+            "fold" => Some(Reserved::Fold),
+            _ => None,
+        }
+    }
+
     /// How it is written.
     pub fn text(self) -> &'static str
         ensures { result.now ≡ word_text self }

@@ -1,5 +1,6 @@
-ghost use Rattle.std.specs.Prelude.{◌≡◌};
+ghost use Rattle.std.specs.Prelude.{◌≡◌, ◌∷◌, []};
 ghost use Rattle.smc_tokens.specs.Marks.{sign_text, sign_code};
+ghost use Rattle.smc_tokens.specs.Front.{spelled_sign};
 
 /// A sign.
 #[derive(Clone, Copy, Debug, Drop, PartialEq, Eq)]
@@ -22,6 +23,39 @@ pub enum Sign {
 }
 
 impl Sign {
+    /// The sign that is written as this one byte.
+    pub fn of_byte(byte: u8) -> Option<Sign>
+        ensures { result ≡ spelled_sign (byte ∷ []) }
+    {
+        match byte {
+            b'=' => Some(Sign::Equal),
+            b'<' => Some(Sign::Less),
+            b'>' => Some(Sign::Greater),
+            b'+' => Some(Sign::Plus),
+            b'-' => Some(Sign::Minus),
+            b'*' => Some(Sign::Star),
+            b'(' => Some(Sign::Open),
+            b')' => Some(Sign::Close),
+            b'[' => Some(Sign::OpenBracket),
+            b']' => Some(Sign::CloseBracket),
+            b',' => Some(Sign::Comma),
+            b'.' => Some(Sign::Dot),
+            _ => None,
+        }
+    }
+
+    /// The sign that is written as these two bytes.
+    pub fn of_pair(first: u8, second: u8) -> Option<Sign>
+        ensures { result ≡ spelled_sign (first ∷ second ∷ []) }
+    {
+        match (first, second) {
+            (b'<', b'>') => Some(Sign::Unequal),
+            (b'<', b'=') => Some(Sign::LessEqual),
+            (b'>', b'=') => Some(Sign::GreaterEqual),
+            _ => None,
+        }
+    }
+
     /// How it is written.
     pub fn text(self) -> &'static str
         ensures { result.now ≡ sign_text self }

@@ -1,0 +1,6 @@
+pub mod Reading
+pub mod Chains
+pub mod Calls
+pub mod Parts
+pub mod Texts
+pub mod Places

@@ -1,0 +1,2 @@
+/// Brackets, parentheses, `not` and unary minus that may at most be open at one place of a text.
+pub const MAX_OPEN: u32 = 64;
