@@ -1,7 +1,7 @@
 //! The machine that runs: the plain program of the machine's definitions, one atomic step at a time.
 //!
 //! `machine` has `Machine`, which is opened and stepped here, and `schedule` plays schedules on it; `row` has the
-//! numbers of a region, which `word` packs and reads; `pass` has what one pass knows: `stand` and `scans` where it
+//! numbers of a region, which the crate of rows opens, packs and reads; `pass` has what one pass knows: `stand` and `scans` where it
 //! stands, `kept` what only grows, `told` what the other passes allow. `grow` and `event` take the memory of a step
 //! before the step changes anything. It stands on the definitions and on the automaton of one pass. Callers may rely
 //! on it that each step is that of the definitions, that each refusal has its cause, and that a refused step changes
@@ -25,7 +25,6 @@ mod step;
 #[cfg(test)]
 mod tests;
 mod told;
-mod word;
 
 pub use machine::Machine;
 pub use schedule::play;

@@ -1,9 +1,10 @@
 //! The first row of a region.
-ghost use Rattle.std.specs.Prelude.{◌≡◌, ◌<◌, ◌++◌, IfOk, OnOk, length, replicate};
-ghost use Rattle.smc_shape.specs.Layout.{coll_of};
+ghost use Rattle.std.specs.Prelude.{◌≡◌, ◌<◌, ◌++◌, IfOk, OnOk, length};
+ghost use Rattle.smc_shape.specs.Layout.{IsShape, coll_of};
 ghost use Rattle.smc_core.specs.Machine.{IsOpening, IsOpened};
 ghost use Rattle.smc_row.specs.Rows.{opened_coll, opened_row};
 
+use crate::copies::push_copies;
 use crate::word::packed;
 use smc_core::{Opening, State, Word};
 use smc_shape::Shape;
@@ -13,7 +14,8 @@ use std::alloc::Global;
 /// The row of a region without objects.
 pub fn opened_row(alloc: Global, shape: &Shape, opening: Opening) -> Result<Vec<u64>, NoMemory>
     requires { IsOpening opening }
-    ensures { IfOk result (λ row. IsOpened shape.now opening row.items) }
+    ensures opened { IfOk result (λ row. IsOpened shape.now opening row.items) }
+    ensures valid { OnOk result (IsShape shape.now) }
 {
     let row = numbers(alloc, shape, opening)?;
     Ok(row)
@@ -22,7 +24,8 @@ pub fn opened_row(alloc: Global, shape: &Shape, opening: Opening) -> Result<Vec<
 /// Its numbers, one after the other.
 fn numbers(alloc: Global, shape: &Shape, opening: Opening) -> Result<Vec<u64>, NoMemory>
     requires { IsOpening opening }
-    ensures { IfOk result (λ row. row.items ≡ opened_row shape.now opening) }
+    ensures row { IfOk result (λ row. row.items ≡ opened_row shape.now opening) }
+    ensures valid { OnOk result (IsShape shape.now) }
 {
     let free = packed(Word::Entry(State::Free {
         incarnation: opening.incarnation,
@@ -47,15 +50,4 @@ fn push_coll(numbers: &mut Vec<u64>, shape: &Shape, c: u8, free: u64) -> Result<
     push_copies(numbers, entries as usize, free)?;
     push_copies(numbers, 3 * slots as usize, 0)?;
     push_copies(numbers, slots as usize * width as usize, BLANK)
-}
-
-/// So many copies of an element go behind the others.
-fn push_copies<T: Copy>(list: &mut Vec<T>, copies: usize, element: T) -> Result<(), NoMemory>
-    ensures { OnOk result (list.new.items ≡ list.old.items ++ replicate copies element) }
-{
-    let Some(length) = list.len().checked_add(copies) else {
-        return Err(NoMemory);
-    };
-    list.resize(length, element)?;
-    Ok(())
 }
