@@ -1,8 +1,9 @@
-ghost use Rattle.std.specs.Prelude.{◌≡◌, ◌+◌, ◌*◌, ◌∷◌, [], IfSome, length};
+ghost use Rattle.std.specs.Prelude.{◌≡◌, ◌+◌, ◌*◌, ◌∷◌, [], IfOk, IfSome, length};
 ghost use Rattle.smc_shape.specs.Layout.{asked};
 ghost use Rattle.smc_region.specs.Callers.{IsPassOf};
+ghost use Rattle.smc_region.specs.Reached.{IsReached};
 
-use crate::{Advance, Pass, Region};
+use crate::{Advance, Pass, Quiet, Region};
 use smc_core::{LAST_EPOCH, Opening};
 use smc_shape::{CollShape, Shape};
 use smc_words::{NoMemory, Number};
@@ -66,6 +67,26 @@ fn work_both<R: Threads + Sync>(
         || work(region, first, rounds),
         || work(region, second, rounds),
     )
+}
+
+/// The region is closed with its two passes.
+fn close_two(
+    alloc: Global,
+    region: Region,
+    first: Pass,
+    second: Pass,
+) -> Result<Quiet, NoMemory>
+    requires two { region.about.shape.passes ≡ 2 }
+    requires first { IsPassOf region first × (first.number ≡ 0) }
+    requires second { IsPassOf region second × (second.number ≡ 1) }
+    ensures shape { IfOk result (λ quiet. quiet.shape ≡ region.about.shape) }
+    ensures locals { IfOk result (λ quiet. quiet.locals ≡ first.local ∷ second.local ∷ []) }
+    ensures reached { IfOk result (λ quiet. IsReached quiet.shape quiet.opening quiet.words (first.local ∷ second.local ∷ [])) }
+{
+    let mut passes = Vec::new(alloc);
+    passes.push(first)?;
+    passes.push(second)?;
+    Ok(region.close(passes))
 }
 
 #[test]
@@ -141,5 +162,29 @@ fn what_is_not_there_is_none(rt: HostRuntime) -> Result<(), AllocError> {
     assert!(rt; section.deref(free).is_none());
     assert!(rt; section.deref(Number { entry: 64, ..free }).is_none());
     assert!(rt; section.deref(Number { coll: 7, ..free }).is_none());
+    Ok(())
+}
+
+#[test]
+fn a_closed_region_has_what_its_passes_left(rt: HostRuntime) -> Result<(), NoMemory> {
+    let alloc = rt.alloc();
+    let Some(shape) = small(alloc) else {
+        return Err(NoMemory);
+    };
+    let (region, mut passes) = Region::open(alloc, shape, Opening::plain())?;
+    let Some(second) = passes.pop() else {
+        return Err(NoMemory);
+    };
+    let Some(first) = passes.pop() else {
+        return Err(NoMemory);
+    };
+    let ((first, one), (second, other)) = work_both(&rt, &region, first, second, 10);
+    let quiet = close_two(alloc, region, first, second)?;
+    assert!(rt; quiet.shape().words() > 3);
+    let (epoch, round) = (quiet.word(0), quiet.word(1));
+    assert_eq!(rt; epoch, one.wrapping_add(other).wrapping_add(2));
+    assert_eq!(rt; (round, quiet.word(2), quiet.word(3)), (0, 0, 0));
+    assert_eq!(rt; quiet.shape().passes(), 2);
+    quiet.free();
     Ok(())
 }

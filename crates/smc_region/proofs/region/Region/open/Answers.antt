@@ -11,14 +11,14 @@ use Rattle.smc_region.proofs.region.Region.open.Goals as goal
 
 pub of_words-requires : goal.of_words-requires
 of_words-requires c = opens_rule c.args.shape c.args.opening c.as_slice.result.now c.passes-count.ensures.valid c.requires
-    (subst (λ (row : List ℕ). IsOpened c.args.shape c.args.opening row) (sym c.as_slice.ensures.value) c.in_ok-words.ensures)
+    (subst (λ (row : List ℕ). IsOpened c.args.shape c.args.opening row) (sym c.as_slice.ensures.value) c.in_ok-words.ensures.opened)
 
 pub split_seat-seat-requires : goal.split_seat-seat-requires
 split_seat-seat-requires c =
     let below : c.loop-number.number < c.args.shape.passes = subst (λ (n : ℕ). c.loop-number.number < n) c.passes-count.ensures.passes c.loop-number-test.true in
     let table = c.in_ok-table.table.shared in
     let sized = c.in_ok-table.ensures.0 in
-    let opened : IsOpened c.args.shape c.args.opening c.in_ok-words.words.items = c.in_ok-words.ensures in
+    let opened : IsOpened c.args.shape c.args.opening c.in_ok-words.words.items = c.in_ok-words.ensures.opened in
     let long = ap length c.as_slice.ensures.value ∙ opened.long in
     let some = some_words c.args.shape in (
       c.loop-number.invariant.table,
@@ -33,7 +33,7 @@ invariant_of-push c =
     let number = c.loop-number.number in
     let me = c.split_seat-seat.result.me in
     let front = deal_front shape number c.loop-number.rest.me me c.loop-number.invariant.rest below c.split_seat-seat.ensures.4 in
-    let opened : IsOpened shape c.args.opening c.in_ok-words.words.items = c.in_ok-words.ensures in
+    let opened : IsOpened shape c.args.opening c.in_ok-words.words.items = c.in_ok-words.ensures.opened in
     let here = λ (m : Me (Unit {0}) View). length m.0.shape.colls in (
       new_seat shape number me front below,
       subst (λ (m : Me (Unit {0}) View). From m.0) (sym front) (first_from shape c.args.opening c.in_ok-words.words.items number c.passes-count.ensures.valid c.requires opened below),
