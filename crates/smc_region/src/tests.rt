@@ -70,12 +70,7 @@ fn work_both<R: Threads + Sync>(
 }
 
 /// The region is closed with its two passes.
-fn close_two(
-    alloc: Global,
-    region: Region,
-    first: Pass,
-    second: Pass,
-) -> Result<Quiet, NoMemory>
+fn close_two(alloc: Global, region: Region, first: Pass, second: Pass) -> Result<Quiet, NoMemory>
     requires two { region.about.shape.passes ≡ 2 }
     requires first { IsPassOf region first × (first.number ≡ 0) }
     requires second { IsPassOf region second × (second.number ≡ 1) }
