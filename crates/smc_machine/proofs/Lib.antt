@@ -1,6 +1,4 @@
 mod AddedLaws
-mod BackLaws
-mod OpenLaws
 mod PlayLaws
 mod RowLaws
 mod RunningLaws

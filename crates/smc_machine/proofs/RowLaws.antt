@@ -4,7 +4,7 @@ use Rattle.std.proofs.lemmas.Bool.{cases_eq}
 use Rattle.std.proofs.lemmas.Bool.Decides.{nat_tests}
 use Rattle.std.proofs.lemmas.List.{length-set, get_or-set_same, get_or-set_other, get_or_default}
 use Rattle.std.proofs.lemmas.Option.{none-some, same_Some}
-use Rattle.smc_shape.specs.Layout.{Layout}
+use Rattle.smc_shape.specs.Layout.{Layout, IsShape}
 use Rattle.smc_shape.specs.Places.{InRange, at}
 use Rattle.smc_shape.specs.declared.place.Place.{Place}
 use Rattle.smc_shape.specs.declared.place.Place.TheVariants.{Epoch, Round, Section, Entry, Directory, Back, Forward, Field}
@@ -13,6 +13,8 @@ use Rattle.smc_core.specs.declared.op.Op.{Op}
 use Rattle.smc_core.specs.declared.op.Op.TheVariants.{Load, Store, Exchange, MarkGone}
 use Rattle.smc_core.specs.declared.word.Word.{Word}
 use Rattle.smc_core.specs.declared.word.Word.TheVariants as word
+use Rattle.smc_core.specs.declared.local.Opening.{Opening}
+use Rattle.smc_core.specs.Machine.{IsOpening, IsOpened, first_word}
 use Rattle.smc_core.specs.Row.{has_place, number_at, packed, place_of, put, shown, unpacked}
 use Rattle.smc_automaton.specs.FitsWord.{FitsAt, FitsOp, FitsSeen, FitsWord}
 use Rattle.smc_machine.specs.Rows.{IsRow, index_of}
@@ -117,3 +119,16 @@ FitsSeen-shown (Load there) number fits old = fits there old
 FitsSeen-shown (Store there w) number fits old = tt
 FitsSeen-shown (Exchange there expect w) number fits old = fits there old
 FitsSeen-shown (MarkGone coll entry) number fits old = fits (Entry coll entry) old
+
+-- the row of a region without objects is one that runs
+FitsAt-opened : (opening : Opening) (there : Place) → IsOpening opening → FitsAt there (packed (first_word opening there))
+FitsAt-opened opening Epoch is = is.last
+FitsAt-opened opening (Section pass) is = omega arith
+FitsAt-opened opening there is = tt
+
+pub IsRow-opened : (shape : Layout) (opening : Opening) (row : List ℕ) → IsShape shape → IsOpening opening → IsOpened shape opening row → IsRow shape row
+IsRow-opened shape opening row valid is opened = record {
+  valid = valid;
+  whole = opened.long;
+  fits = λ there within. subst (λ (n : ℕ). FitsAt there n) (sym (opened.words there within)) (FitsAt-opened opening there is);
+}

@@ -5,4 +5,3 @@ pub mod Kept
 pub mod Plays
 pub mod Rows
 pub mod Running
-pub mod Words

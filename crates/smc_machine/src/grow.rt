@@ -1,5 +1,5 @@
 //! Lists that grow in two steps: the first takes the memory and changes nothing that is seen, the second cannot fail.
-ghost use Rattle.std.specs.Prelude.{◌≡◌, ◌+◌, ◌<◌, ◌++◌, ◌^◌, IfOk, OnOk, length, replicate};
+ghost use Rattle.std.specs.Prelude.{◌≡◌, ◌+◌, ◌<◌, ◌++◌, ◌^◌, IfOk, OnOk, length};
 ghost use Rattle.std.specs.Option.{option_to_list};
 ghost use Rattle.std.specs.Vec.{vec_len, vec_capacity};
 
@@ -13,21 +13,6 @@ pub(crate) fn make_room<T: Drop>(list: &mut Vec<T>) -> Result<(), NoMemory>
     ensures room { OnOk result (vec_len list.new < vec_capacity list.new) }
 {
     list.reserve(1)?;
-    Ok(())
-}
-
-/// So many copies of an element go behind the others.
-pub(crate) fn push_copies<T: Copy>(
-    list: &mut Vec<T>,
-    copies: usize,
-    element: T,
-) -> Result<(), NoMemory>
-    ensures { OnOk result (list.new.items ≡ list.old.items ++ replicate copies element) }
-{
-    let Some(length) = list.len().checked_add(copies) else {
-        return Err(NoMemory);
-    };
-    list.resize(length, element)?;
     Ok(())
 }
 

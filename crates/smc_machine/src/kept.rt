@@ -4,10 +4,11 @@ ghost use Rattle.smc_automaton.specs.Effects.{cursors_by};
 ghost use Rattle.smc_machine.specs.Added.{note_made, note_learnt, answer_at};
 ghost use Rattle.smc_machine.specs.Kept.{IsFresh, IsSame, HasRoom, Grows};
 
-use crate::grow::{add, make_room, push_copies};
+use crate::grow::{add, make_room};
 use smc_automaton::Cursor;
 use smc_core::{Answer, Call, Choice, Done, Learnt};
 use smc_model::Event;
+use smc_row::push_copies;
 use smc_words::NoMemory;
 use std::alloc::Global;
 

@@ -1,17 +1,16 @@
 //! The numbers of a region's words in one row: how they are opened, read, and changed by an operation.
-ghost use Rattle.std.specs.Prelude.{◌≡◌, ◌<◌, ◌++◌, IfSome, IfOk, OnOk, length};
-ghost use Rattle.smc_shape.specs.Layout.{IsShape, coll_of};
+ghost use Rattle.std.specs.Prelude.{◌≡◌, ◌<◌, IfSome, IfOk, length};
+ghost use Rattle.smc_shape.specs.Layout.{IsShape};
 ghost use Rattle.smc_core.specs.Machine.{IsOpening, IsOpened};
 ghost use Rattle.smc_core.specs.Row.{place_of, has_place, number_at, put, shown, row_after, row_shows};
 ghost use Rattle.smc_automaton.specs.FitsWord.{FitsAt, FitsOp, FitsSeen};
-ghost use Rattle.smc_machine.specs.Rows.{index_of, opened_coll, opened_row};
+ghost use Rattle.smc_machine.specs.Rows.{index_of};
 
-use crate::grow::push_copies;
-use crate::word::{packed, unpacked};
 use smc_automaton::laws::numbers_fit;
-use smc_core::{Op, Opening, State, Word};
+use smc_core::{Op, Opening, Word};
+use smc_row::{opened_row, packed, unpacked};
 use smc_shape::{Place, Shape};
-use smc_words::{BLANK, Entry, NoMemory};
+use smc_words::{Entry, NoMemory};
 use std::alloc::Global;
 use std::marker::Model;
 
@@ -154,35 +153,4 @@ fn put(op: Op, number: u64) -> u64
         }
         Op::MarkGone { .. } => number | Entry::GONE,
     }
-}
-
-/// The numbers of a region without objects.
-fn opened_row(alloc: Global, shape: &Shape, opening: Opening) -> Result<Vec<u64>, NoMemory>
-    requires { IsOpening opening }
-    ensures row { IfOk result (λ row. row.items ≡ opened_row shape.now opening) }
-    ensures valid { OnOk result (IsShape shape.now) }
-{
-    let free = packed(Word::Entry(State::Free {
-        incarnation: opening.incarnation,
-        stamp: 0,
-    }));
-    let mut row = Vec::with_capacity(alloc, shape.words())?;
-    row.push(opening.epoch)?;
-    push_copies(&mut row, 1 + shape.passes() as usize, 0)?;
-    for c in 0..shape.colls() {
-        push_coll(&mut row, shape, c as u8, free)?;
-    }
-    Ok(row)
-}
-
-/// The numbers of a collection without objects go to the end of `numbers`.
-fn push_coll(numbers: &mut Vec<u64>, shape: &Shape, c: u8, free: u64) -> Result<(), NoMemory>
-    requires { c < length shape.now.colls }
-    ensures { OnOk result (numbers.new.items ≡
-        numbers.old.items ++ opened_coll free (coll_of shape.now c)) }
-{
-    let (width, slots, entries) = (shape.width(c), shape.slots(c), shape.entries(c));
-    push_copies(numbers, entries as usize, free)?;
-    push_copies(numbers, 3 * slots as usize, 0)?;
-    push_copies(numbers, slots as usize * width as usize, BLANK)
 }

@@ -1,8 +1,0 @@
-use Rattle.std.proofs.Common.{◌≡◌, ◌+◌, ◌++◌, ◌∷◌, replicate, take}
-use Rattle.std.specs.List.{flat_map}
-use Rattle.smc_machine.specs.Rows.{opened_coll, opened_entry}
-use Rattle.smc_machine.proofs.row.opened_row.Given as goal
-
-abbrev pub invariant-loop-c : goal.invariant-loop-c
-invariant-loop-c l =
-    l.row.items ≡ l.fn.opening.epoch ∷ (replicate (1 + l.shape.passes) 0 ++ flat_map (opened_coll (opened_entry l.fn.opening)) (take l.c l.shape.colls))

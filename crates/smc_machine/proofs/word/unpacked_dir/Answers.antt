@@ -1,6 +1,0 @@
-use Rattle.std.proofs.Common.{sym}
-use Rattle.smc_machine.proofs.BackLaws.{dir-none}
-use Rattle.smc_machine.proofs.word.unpacked_dir.Goals as goal
-
-pub returns-in-None : goal.returns-in-None
-returns-in-None c = sym (dir-none c.args.number c.in-None.ensures.none)

@@ -1,5 +1,0 @@
-use Rattle.smc_machine.proofs.BackLaws.{number-read}
-use Rattle.smc_machine.proofs.word.unpacked_number.Goals as goal
-
-pub returns : goal.returns
-returns c = number-read c.args.number c.unpack.result c.unpack.ensures.some c.unpack.ensures.none

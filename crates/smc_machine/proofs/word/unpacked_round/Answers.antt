@@ -1,5 +1,0 @@
-use Rattle.smc_machine.proofs.BackLaws.{round-read}
-use Rattle.smc_machine.proofs.word.unpacked_round.Goals as goal
-
-pub returns : goal.returns
-returns c = round-read c.args.number c.unpack.result c.unpack.ensures.some c.unpack.ensures.none

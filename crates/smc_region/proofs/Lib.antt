@@ -1,0 +1,9 @@
+pub mod StepLaws
+pub mod Keeps
+pub mod Allowed
+pub mod SectionLaws
+pub mod Insides
+pub mod Deals
+pub mod EpochLaws
+pub mod Gathers
+pub mod Closes

@@ -1,0 +1,9 @@
+pub mod Reached
+pub mod Views
+pub mod Rule
+pub mod Choices
+pub mod Callers
+pub mod Sections
+pub mod Looks
+pub mod Advances
+pub mod Ends

@@ -1,0 +1,35 @@
+-- What a step on the table rests on: the region is in a state that the machine reaches.
+use Rattle.std.specs.Prelude.{◌≡◌, ℕ, Some, List, slice_get}
+use Rattle.std.specs.List.{AllByRecursion}
+use Rattle.smc_shape.specs.Layout.{Layout, IsShape}
+use Rattle.smc_core.specs.declared.local.Local.{Local}
+use Rattle.smc_core.specs.declared.local.Opening.{Opening}
+use Rattle.smc_core.specs.declared.op.Op.{Op}
+use Rattle.smc_core.specs.declared.word.Word.{Word}
+use Rattle.smc_core.specs.Machine.{Machine, IsOpening, IsOpened, Reach}
+use Rattle.smc_core.specs.Row.{row_shows}
+use Rattle.smc_region.specs.declared.law.View.{View}
+
+-- steps lead to this row and these local states from a region that opened so, without objects
+pub record IsReached (shape : Layout) (opening : Opening) (row : List ℕ) (locals : List Local) : Type 0 where
+  pub start : List ℕ
+  pub valid : IsShape shape
+  pub opens : IsOpening opening
+  pub opened : IsOpened shape opening start
+  pub reach : Reach shape start row locals
+
+-- the pass has this local state there
+abbrev pub StandsIn : List Local → ℕ × Local → Type 0
+StandsIn locals told = slice_get locals told.0 ≡ Some told.1
+
+-- some state that is reached has the local states of this view
+pub record From (view : View) : Type 0 where
+  pub opening : Opening
+  pub machine : Machine
+  pub reached : IsReached view.shape opening machine.row machine.locals
+  pub stands : AllByRecursion (StandsIn machine.locals) view.locals
+
+-- and there the operation shows this word
+pub record Saw (view : View) (op : Op) (w : Word) : Type 0 where
+  pub from : From view
+  pub is : w ≡ row_shows view.shape op from.machine.row

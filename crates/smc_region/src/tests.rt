@@ -1,0 +1,185 @@
+ghost use Rattle.std.specs.Prelude.{◌≡◌, ◌+◌, ◌*◌, ◌∷◌, [], IfOk, IfSome, length};
+ghost use Rattle.smc_shape.specs.Layout.{asked};
+ghost use Rattle.smc_region.specs.Callers.{IsPassOf};
+ghost use Rattle.smc_region.specs.Reached.{IsReached};
+
+use crate::{Advance, Pass, Quiet, Region};
+use smc_core::{LAST_EPOCH, Opening};
+use smc_shape::{CollShape, Shape};
+use smc_words::{NoMemory, Number};
+use std::alloc::{AllocError, Global};
+use std::thread::{Threads, join};
+
+/// A shape with two passes, and one collection of 64 slots.
+fn small(alloc: Global) -> Option<Shape>
+    ensures { IfSome result (λ shape. shape ≡ asked 2 (record { width = 1; slots = 64 } ∷ [])) }
+{
+    let colls = Vec::from_slice(
+        alloc,
+        &[CollShape {
+            width: 1,
+            slots: 64,
+        }],
+    );
+    match colls {
+        Ok(colls) => match Shape::new(2, colls) {
+            Ok(shape) => Some(shape),
+            Err(_) => None,
+        },
+        Err(_) => None,
+    }
+}
+
+/// Enters and leaves so many times, and tries to advance in between. Answers how often it moved the epoch on.
+fn work(region: &Region, pass: Pass, rounds: u32) -> (Pass, u64)
+    requires { IsPassOf region.now pass }
+    ensures here { IsPassOf region.now result.0 × (result.0.number ≡ pass.number) }
+    ensures events { length result.0.local.log ≡ length pass.local.log + 2 * rounds }
+{
+    let mut pass = pass;
+    let mut moved = 0u64;
+    for _ in 0..rounds {
+        pass = pass.enter(region).leave();
+        if let Advance::Advanced { .. } = pass.advance(region) {
+            moved = moved.wrapping_add(1);
+        }
+    }
+    (pass, moved)
+}
+
+/// Each in a thread of its own.
+fn work_both<R: Threads + Sync>(
+    rt: &R,
+    region: &Region,
+    first: Pass,
+    second: Pass,
+    rounds: u32,
+) -> ((Pass, u64), (Pass, u64))
+    requires first { IsPassOf region.now first }
+    requires second { IsPassOf region.now second }
+    ensures first { IsPassOf region.now result.0.0 × (result.0.0.number ≡ first.number)
+        × (length result.0.0.local.log ≡ length first.local.log + 2 * rounds) }
+    ensures second { IsPassOf region.now result.1.0 × (result.1.0.number ≡ second.number)
+        × (length result.1.0.local.log ≡ length second.local.log + 2 * rounds) }
+{
+    join(
+        rt,
+        || work(region, first, rounds),
+        || work(region, second, rounds),
+    )
+}
+
+/// The region is closed with its two passes.
+fn close_two(alloc: Global, region: Region, first: Pass, second: Pass) -> Result<Quiet, NoMemory>
+    requires two { region.about.shape.passes ≡ 2 }
+    requires first { IsPassOf region first × (first.number ≡ 0) }
+    requires second { IsPassOf region second × (second.number ≡ 1) }
+    ensures shape { IfOk result (λ quiet. quiet.shape ≡ region.about.shape) }
+    ensures locals { IfOk result (λ quiet. quiet.locals ≡ first.local ∷ second.local ∷ []) }
+    ensures reached { IfOk result (λ quiet. IsReached quiet.shape quiet.opening quiet.words (first.local ∷ second.local ∷ [])) }
+{
+    let mut passes = Vec::new(alloc);
+    passes.push(first)?;
+    passes.push(second)?;
+    Ok(region.close(passes))
+}
+
+#[test]
+fn two_threads_step_on_one_region(rt: HostRuntime) -> Result<(), NoMemory> {
+    let Some(shape) = small(rt.alloc()) else {
+        return Err(NoMemory);
+    };
+    let (region, mut passes) = Region::open(rt.alloc(), shape, Opening::plain())?;
+    let Some(second) = passes.pop() else {
+        return Err(NoMemory);
+    };
+    let Some(first) = passes.pop() else {
+        return Err(NoMemory);
+    };
+    let ((first, one), (_, other)) = work_both(&rt, &region, first, second, 1_000);
+    let section = first.enter(&region);
+    assert_eq!(rt; section.epoch(), one.wrapping_add(other).wrapping_add(2));
+    Ok(())
+}
+
+#[test]
+fn an_advance_waits_for_a_section_and_ends_at_the_last_epoch(
+    rt: HostRuntime,
+) -> Result<(), AllocError> {
+    let alloc = rt.alloc();
+    let opening = Opening {
+        epoch: LAST_EPOCH - 1,
+        incarnation: 0,
+    };
+    let Some(shape) = small(alloc) else {
+        return Err(AllocError);
+    };
+    let Ok((region, mut passes)) = Region::open(alloc, shape, opening) else {
+        return Err(AllocError);
+    };
+    let Some(mut second) = passes.pop() else {
+        unreachable!()
+    };
+    let Some(first) = passes.pop() else {
+        unreachable!()
+    };
+    let section = first.enter(&region);
+    assert_eq!(rt;
+        (section.pass(), section.epoch(), section.calm()),
+        (0, LAST_EPOCH - 1, true)
+    );
+    assert_eq!(rt; (section.scans(), section.cursor(0)), (0, 0));
+    let epoch = LAST_EPOCH;
+    assert_eq!(rt; second.advance(&region), Advance::Advanced { epoch });
+    assert_eq!(rt; second.advance(&region), Advance::Spent);
+    assert_eq!(rt; section.leave().number(), 0);
+    Ok(())
+}
+
+#[test]
+fn what_is_not_there_is_none(rt: HostRuntime) -> Result<(), AllocError> {
+    let alloc = rt.alloc();
+    let Some(shape) = small(alloc) else {
+        return Err(AllocError);
+    };
+    let Ok((region, mut passes)) = Region::open(alloc, shape, Opening::plain()) else {
+        return Err(AllocError);
+    };
+    let Some(pass) = passes.pop() else {
+        unreachable!()
+    };
+    let mut section = pass.enter(&region);
+    let free = Number {
+        incarnation: 1,
+        entry: 0,
+        coll: 0,
+    };
+    assert!(rt; section.deref(free).is_none());
+    assert!(rt; section.deref(Number { entry: 64, ..free }).is_none());
+    assert!(rt; section.deref(Number { coll: 7, ..free }).is_none());
+    Ok(())
+}
+
+#[test]
+fn a_closed_region_has_what_its_passes_left(rt: HostRuntime) -> Result<(), NoMemory> {
+    let alloc = rt.alloc();
+    let Some(shape) = small(alloc) else {
+        return Err(NoMemory);
+    };
+    let (region, mut passes) = Region::open(alloc, shape, Opening::plain())?;
+    let Some(second) = passes.pop() else {
+        return Err(NoMemory);
+    };
+    let Some(first) = passes.pop() else {
+        return Err(NoMemory);
+    };
+    let ((first, one), (second, other)) = work_both(&rt, &region, first, second, 10);
+    let quiet = close_two(alloc, region, first, second)?;
+    assert!(rt; quiet.shape().words() > 3);
+    let (epoch, round) = (quiet.word(0), quiet.word(1));
+    assert_eq!(rt; epoch, one.wrapping_add(other).wrapping_add(2));
+    assert_eq!(rt; (round, quiet.word(2), quiet.word(3)), (0, 0, 0));
+    assert_eq!(rt; quiet.shape().passes(), 2);
+    quiet.free();
+    Ok(())
+}
