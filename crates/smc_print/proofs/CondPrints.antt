@@ -1,14 +1,14 @@
 -- Conditions are read as they are printed.
-use Rattle.std.proofs.Common.{◌≡◌, ℕ, zero, suc, ◌+◌, ◌≤◌, max, List, [], ◌∷◌, ◌++◌, append_assoc, arith}
+use Rattle.std.proofs.Common.{ℕ, zero, suc, ◌≤◌, List, [], ◌∷◌, ◌++◌, append_assoc, arith}
 use Rattle.smc_tokens.specs.declared.token.Token.{Token}
 use Rattle.smc_tokens.specs.declared.token.Token.TheVariants.{Word, Sign}
 use Rattle.smc_tokens.specs.declared.reserved.Reserved.TheVariants as words
 use Rattle.smc_tokens.specs.declared.sign.Sign.TheVariants as signs
 use Rattle.smc_query.specs.declared.cond.Op.{Op}
 use Rattle.smc_query.specs.Trees.{ExprTree, CondTree, either, both, negation, comparison, within}
-use Rattle.smc_query.specs.Grammar.{op_sign, ReadsExpr, ReadsNeg, a_negation, brackets, a_comparison, a_range, ReadsConj, one_neg, an_and, ReadsCond, one_conj, an_or}
+use Rattle.smc_query.specs.Grammar.{op_sign, ReadsNeg, a_negation, brackets, a_comparison, a_range, ReadsConj, one_neg, an_and, ReadsCond, one_conj, an_or}
 use Rattle.smc_print.specs.Printed.{expr_tokens, cond_tokens, side_tokens, is_joined}
-use Rattle.smc_print.specs.Depth.{expr_depth, cond_depth, grouped_depth}
+use Rattle.smc_print.specs.Depth.{cond_depth, grouped_depth}
 use Rattle.smc_print.proofs.ExprPrints.{ExprPrints, expr_prints}
 
 -- a condition is read where it is printed by itself, and where it is printed as an operand

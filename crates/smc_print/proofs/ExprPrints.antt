@@ -1,11 +1,11 @@
 -- Expressions are read as they are printed.
-use Rattle.std.proofs.Common.{◌≡◌, ℕ, zero, suc, ◌+◌, ◌≤◌, max, List, [], ◌∷◌, ◌++◌, append_assoc, arith}
+use Rattle.std.proofs.Common.{ℕ, zero, suc, ◌≤◌, List, [], ◌∷◌, ◌++◌, append_assoc, arith}
 use Rattle.smc_tokens.specs.declared.token.Token.{Token}
 use Rattle.smc_tokens.specs.declared.token.Token.TheVariants.{Sign}
 use Rattle.smc_tokens.specs.declared.sign.Sign.TheVariants as signs
-use Rattle.smc_query.specs.Trees.{PathTree, ExprTree, number, date, text, field, sum, difference, product, minus}
-use Rattle.smc_query.specs.Grammar.{ReadsPath, ReadsFactor, a_number, a_date, a_text, a_path, a_minus, parentheses, ReadsTerm, one_factor, a_product, ReadsExpr, one_term, a_sum, a_difference}
-use Rattle.smc_print.specs.Printed.{path_tokens, expr_tokens, operand_tokens, is_compound}
+use Rattle.smc_query.specs.Trees.{ExprTree, sum, difference, product, minus}
+use Rattle.smc_query.specs.Grammar.{ReadsFactor, a_number, a_date, a_text, a_path, a_minus, parentheses, ReadsTerm, one_factor, a_product, ReadsExpr, one_term, a_sum, a_difference}
+use Rattle.smc_print.specs.Printed.{expr_tokens, operand_tokens, is_compound}
 use Rattle.smc_print.specs.Depth.{expr_depth, grouped_depth}
 use Rattle.smc_print.proofs.ListPrints.{path_prints}
 

@@ -1,5 +1,5 @@
 -- Paths and lists are read as they are printed.
-use Rattle.std.proofs.Common.{◌≡◌, ℕ, zero, suc, ◌+◌, ◌<◌, ◌≤◌, List, [], ◌∷◌, ◌++◌, length, length-append, append_assoc, append-nil, ◌∙◌, ap, sym, refl, subst, arith}
+use Rattle.std.proofs.Common.{◌≡◌, ℕ, ◌<◌, List, [], ◌∷◌, ◌++◌, length, append_assoc, append-nil, ap, arith}
 use Rattle.smc_tokens.specs.declared.token.Token.{Token}
 use Rattle.smc_tokens.specs.declared.token.Token.TheVariants.{Name, Word, Sign}
 use Rattle.smc_tokens.specs.declared.reserved.Reserved.TheVariants as words
@@ -7,7 +7,7 @@ use Rattle.smc_tokens.specs.declared.sign.Sign.{Sign as AnySign}
 use Rattle.smc_tokens.specs.declared.sign.Sign.TheVariants as signs
 use Rattle.smc_query.specs.Trees.{PathTree, KeyTree}
 use Rattle.smc_query.specs.Grammar.{ReadsPath, one_name, more_names, ReadsPaths, one_path, more_paths, ReadsKey, rising, falling, ReadsKeys, one_key, more_keys, ReadsBy, no_by, a_by, ReadsSort, no_sort, a_sort}
-use Rattle.smc_print.specs.Printed.{listed, between, path_tokens, key_tokens, by_tokens, sort_tokens}
+use Rattle.smc_print.specs.Printed.{listed, path_tokens, key_tokens, by_tokens, sort_tokens}
 use Rattle.smc_print.proofs.WriteLaws.{listed_next, between_later}
 
 -- one more part of a list that has parts stands behind the sign, before what follows

@@ -1,25 +1,18 @@
 -- A number of a text is read where it is written.
-use Rattle.std.proofs.Common.{rules, ◌≡◌, inl, inr, ℕ, zero, suc, ◌+◌, ◌-◌, ◌*◌, ◌/◌, ◌^◌, ◌<◌, ◌≤◌, Bool, true, false, cond, ◌&&◌, eqb, List, [], ◌∷◌, ◌++◌, length, length-append, take, drop, take-append-drop, get_or, Option, Some, None, decimal, refl, arith, ◌∙◌, sym, ap, subst}
+use Rattle.std.proofs.Common.{rules, ◌≡◌, ℕ, suc, ◌+◌, ◌/◌, ◌^◌, ◌<◌, ◌≤◌, true, false, ◌&&◌, eqb, List, [], ◌∷◌, ◌++◌, length, take, drop, Some, decimal, refl, arith, ◌∙◌, sym, ap}
 use Rattle.std.specs.Char.{is_ascii_digit, is_ascii_lowercase}
-use Rattle.std.specs.List.{list_all, prefix_len, find}
-use Rattle.std.specs.Str.{bytes_eq}
+use Rattle.std.specs.List.{list_all, prefix_len}
 use Rattle.std.specs.Str.Parse.{digits_value, digits_value_after}
-use Rattle.std.proofs.lemmas.Bool.{ne_eqb, and_from, and_parts, and_left, and_right, cases_Bool, cond-true, cond-false, eqb-true, eq-eqb, lt-ltb, lt-leb, leb-true, ltb-true, false_from_ne_true, true≢false, false≢true}
+use Rattle.std.proofs.lemmas.Bool.{ne_eqb, and_from, and_parts, and_left, and_right, cond-true, cond-false, eqb-true, lt-ltb, lt-leb, leb-true, ltb-true, false_from_ne_true, true≢false, false≢true}
 use Rattle.std.proofs.lemmas.Fmt.{digits_decimal, digits_value-decimal, decimal_nonempty, length-decimal-le}
 use Rattle.std.proofs.lemmas.List.Folds.{list_all-append, list_all_at}
 use Rattle.std.proofs.lemmas.Str.Parse.{IsDigitsTest, IsNumeralModel, numerals_by_value}
 use Rattle.std.proofs.Math.Seq.{take-append_seam, drop-append_seam}
 use Rattle.std.proofs.Math.Nat.{pow-le-pow_right}
-use Rattle.smc_tokens.specs.Marks.{word_text, sign_text}
-use Rattle.smc_tokens.specs.Tokens.{quote, dash, point, token_of, named, signed, all_words, all_signs, is_name, is_date, has_date_form, is_number, digits_of, behind_digits, are_digits, is_fraction, number_of, is_quoted, ends_quoted, year_of, month_of, day_of}
+use Rattle.smc_tokens.specs.Tokens.{dash, point, token_of, has_date_form, is_number, digits_of, behind_digits, are_digits, is_fraction, number_of}
 use Rattle.smc_tokens.specs.declared.limits.TheConstants.{MAX_DIGITS}
-use Rattle.smc_tokens.specs.declared.token.Token.{Token}
-use Rattle.smc_tokens.specs.declared.token.Token.TheVariants.{Name, Word, Date, Number, Text, Sign as OfSign}
-use Rattle.smc_tokens.specs.declared.reserved.Reserved.{Reserved}
-use Rattle.smc_tokens.specs.declared.reserved.Reserved.TheVariants.{From, Where, By, Show, Sort, First, As, And, Or, Not, Between, Desc, Sum, Avg, Min, Max, Count, Fold}
-use Rattle.smc_tokens.specs.declared.sign.Sign.{Sign}
-use Rattle.smc_tokens.specs.declared.sign.Sign.TheVariants.{Equal, Unequal, Less, LessEqual, Greater, GreaterEqual, Plus, Minus, Star, Open, Close, OpenBracket, CloseBracket, Comma, Dot}
-use Rattle.smc_print.specs.TokenText.{token_text, last_digits, fraction_text, number_text, date_text, quoted_text}
+use Rattle.smc_tokens.specs.declared.token.Token.TheVariants.{Number}
+use Rattle.smc_print.specs.TokenText.{token_text, last_digits, fraction_text, number_text}
 use Rattle.smc_print.specs.Laws.{IsRead}
 use Rattle.smc_print.proofs.DigitTexts.{value_less, value_front, last_of, value_append}
 use Rattle.smc_print.proofs.BrokenTokens.{in_number, fraction_passes, digits_pass}
@@ -148,4 +141,3 @@ number_read bytes is =
     ap token_of text
     ∙ decimal_token (decimal v) behind (decimal_nonempty v fits) (digits_decimal digit_model v fits) (length-decimal-le 12 v (omega arith) small fits) fraction
     ∙ ap (λ n. Some (Number n k)) again
-

@@ -1,5 +1,5 @@
 -- What is printed of a query of a text is read as this query.
-use Rattle.std.proofs.Common.{◌≡◌, ℕ, ◌+◌, ◌≤◌, List, [], ◌∷◌, length, map, take, refl, ap}
+use Rattle.std.proofs.Common.{◌≡◌, ℕ, ◌+◌, List, [], ◌∷◌, length, map, take, refl, ap}
 use Rattle.smc_tokens.specs.Tokens.{PlacedToken, FallsInto, ended, spaced, taken, refused}
 use Rattle.smc_tokens.specs.declared.token.Token.{Token}
 use Rattle.smc_print.specs.TokenText.{token_text}

@@ -1,12 +1,12 @@
 -- A query is read as it is printed.
-use Rattle.std.proofs.Common.{◌≡◌, ℕ, zero, suc, ◌+◌, ◌<◌, ◌≤◌, max, List, [], ◌∷◌, ◌++◌, length, append_assoc, append-nil, arith, Option, Some, None}
+use Rattle.std.proofs.Common.{◌≡◌, ℕ, zero, suc, ◌<◌, ◌≤◌, max, List, [], ◌∷◌, ◌++◌, length, append_assoc, append-nil, arith, Option}
 use Rattle.smc_tokens.specs.declared.token.Token.{Token}
 use Rattle.smc_tokens.specs.declared.token.Token.TheVariants.{Name, Word, Sign}
 use Rattle.smc_tokens.specs.declared.reserved.Reserved.TheVariants as words
 use Rattle.smc_tokens.specs.declared.sign.Sign.TheVariants as signs
-use Rattle.smc_query.specs.Trees.{ExprTree, CondTree, CallTree, count, aggregate, fold, ItemTree, QueryTree, query_text, a_query as query_answer}
-use Rattle.smc_query.specs.Grammar.{aggregate_word, ReadsExpr, ReadsCall, a_count, an_aggregate, a_fold, ReadsItem, unnamed, named, ReadsItems, one_item, more_items, ReadsFilter, no_filter, a_filter, ReadsFirst, no_first, a_first, ReadsQuery, a_query}
-use Rattle.smc_print.specs.Printed.{listed, expr_tokens, argument_tokens, call_tokens, item_tokens, filter_tokens, show_tokens, sort_tokens, first_tokens, query_tokens}
+use Rattle.smc_query.specs.Trees.{ExprTree, CondTree, CallTree, ItemTree, QueryTree}
+use Rattle.smc_query.specs.Grammar.{ReadsExpr, ReadsCall, a_count, an_aggregate, a_fold, ReadsItem, unnamed, named, ReadsItems, one_item, more_items, ReadsFilter, no_filter, a_filter, ReadsFirst, no_first, a_first, ReadsQuery, a_query}
+use Rattle.smc_print.specs.Printed.{listed, expr_tokens, call_tokens, item_tokens, filter_tokens, show_tokens, sort_tokens, first_tokens, query_tokens}
 use Rattle.smc_print.specs.Depth.{expr_depth, call_depth, items_depth, filter_depth, query_depth}
 use Rattle.smc_print.specs.Laws.{TokensSpellTheQuery}
 use Rattle.smc_print.proofs.ListPrints.{listed_later, listed_one, some_more, by_prints, sort_prints}

@@ -1,28 +1,22 @@
 -- A token of a text is read where it is written.
-use Rattle.std.proofs.Common.{rules, ◌≡◌, inl, inr, ℕ, zero, suc, ◌+◌, ◌-◌, ◌*◌, ◌/◌, ◌^◌, ◌<◌, ◌≤◌, Bool, true, false, cond, ◌&&◌, eqb, List, [], ◌∷◌, ◌++◌, length, length-append, take, drop, take-append-drop, get_or, Option, Some, None, decimal, refl, arith, ◌∙◌, sym, ap, subst}
-use Rattle.std.specs.Char.{is_ascii_digit, is_ascii_lowercase}
-use Rattle.std.specs.List.{list_all, prefix_len, find}
+use Rattle.std.proofs.Common.{◌≡◌, inl, inr, ℕ, suc, ◌-◌, true, ◌&&◌, eqb, List, [], ◌∷◌, ◌++◌, length, take, drop, Option, Some, None, refl, arith, ◌∙◌, sym, ap, subst}
+use Rattle.std.specs.Char.{is_ascii_digit}
+use Rattle.std.specs.List.{list_all, find}
 use Rattle.std.specs.Str.{bytes_eq}
-use Rattle.std.specs.Str.Parse.{digits_value, digits_value_after}
-use Rattle.std.proofs.lemmas.Bool.{ne_eqb, and_from, and_parts, and_left, and_right, cases_Bool, cond-true, cond-false, eqb-true, eq-eqb, lt-ltb, lt-leb, leb-true, ltb-true, false_from_ne_true, true≢false, false≢true}
-use Rattle.std.proofs.lemmas.Fmt.{digits_decimal, digits_value-decimal, decimal_nonempty, length-decimal-le}
-use Rattle.std.proofs.lemmas.List.Folds.{list_all-append, list_all_at}
-use Rattle.std.proofs.lemmas.Str.Parse.{IsDigitsTest, IsNumeralModel, numerals_by_value}
-use Rattle.std.proofs.Math.Seq.{take-append_seam, drop-append_seam}
-use Rattle.std.proofs.Math.Nat.{pow-le-pow_right}
+use Rattle.std.specs.Str.Parse.{digits_value}
+use Rattle.std.proofs.lemmas.Bool.{and_parts, cases_Bool, cond-true, cond-false, eqb-true, false≢true}
+use Rattle.std.proofs.lemmas.List.Folds.{list_all-append}
 use Rattle.smc_tokens.specs.Marks.{word_text, sign_text}
-use Rattle.smc_tokens.specs.Tokens.{quote, dash, point, token_of, named, signed, all_words, all_signs, is_name, is_date, has_date_form, is_number, digits_of, behind_digits, are_digits, is_fraction, number_of, is_quoted, ends_quoted, year_of, month_of, day_of}
-use Rattle.smc_tokens.specs.declared.limits.TheConstants.{MAX_DIGITS}
+use Rattle.smc_tokens.specs.Tokens.{quote, dash, token_of, named, signed, all_words, all_signs, is_name, is_date, has_date_form, is_number, number_of, is_quoted, ends_quoted, year_of, month_of, day_of}
 use Rattle.smc_tokens.specs.declared.token.Token.{Token}
-use Rattle.smc_tokens.specs.declared.token.Token.TheVariants.{Name, Word, Date, Number, Text, Sign as OfSign}
+use Rattle.smc_tokens.specs.declared.token.Token.TheVariants.{Word, Date, Text, Sign as OfSign}
 use Rattle.smc_tokens.specs.declared.reserved.Reserved.{Reserved}
 use Rattle.smc_tokens.specs.declared.reserved.Reserved.TheVariants.{From, Where, By, Show, Sort, First, As, And, Or, Not, Between, Desc, Sum, Avg, Min, Max, Count, Fold}
 use Rattle.smc_tokens.specs.declared.sign.Sign.{Sign}
 use Rattle.smc_tokens.specs.declared.sign.Sign.TheVariants.{Equal, Unequal, Less, LessEqual, Greater, GreaterEqual, Plus, Minus, Star, Open, Close, OpenBracket, CloseBracket, Comma, Dot}
-use Rattle.smc_print.specs.TokenText.{token_text, last_digits, fraction_text, number_text, date_text, quoted_text}
+use Rattle.smc_print.specs.TokenText.{token_text, last_digits, date_text, quoted_text}
 use Rattle.smc_print.specs.Laws.{IsRead}
-use Rattle.smc_print.proofs.DigitTexts.{value_less, value_front, last_of, value_append}
-use Rattle.smc_print.proofs.BrokenTokens.{in_number, fraction_passes, digits_pass}
+use Rattle.smc_print.proofs.DigitTexts.{last_of}
 use Rattle.smc_print.proofs.NumberTexts.{number_read}
 
 -- ---- words, names and signs
@@ -125,35 +119,35 @@ pub read_again : (bytes : List ℕ) (token : Token) → token_of bytes ≡ Some 
 unfolding token_of token_text
 read_again bytes token spelled =
     elim (cases_Bool (is_name bytes)) [
-      inl name ↦
-        let found = find (λ word. bytes_eq (word_text word) bytes) all_words in
-        let e : token_of bytes ≡ Some (named bytes found) = cond-true _ _ _ name in
-        let same : named bytes found ≡ token = cc in
-        subst IsRead same (named_read bytes found e)
-    | inr no_name ↦
-        elim (cases_Bool (is_date bytes)) [
-          inl date ↦
-            let e : token_of bytes ≡ Some (Date (year_of bytes) (month_of bytes) (day_of bytes)) = cond-false _ _ _ no_name ∙ cond-true _ _ _ date in
-            let same : Date (year_of bytes) (month_of bytes) (day_of bytes) ≡ token = cc in
-            subst IsRead same (same_text bytes (Date (year_of bytes) (month_of bytes) (day_of bytes)) e (date_is bytes (date_form bytes date)))
-        | inr no_date ↦
-            elim (cases_Bool (is_number bytes)) [
-              inl number ↦
-                let e : token_of bytes ≡ Some (number_of bytes) = cond-false _ _ _ no_name ∙ cond-false _ _ _ no_date ∙ cond-true _ _ _ number in
-                let same : number_of bytes ≡ token = cc in
-                subst IsRead same (number_read bytes number)
-            | inr no_number ↦
-                elim (cases_Bool (is_quoted bytes)) [
-                  inl quoted ↦
-                    let inner = take (length bytes - 2) (drop 1 bytes) in
-                    let e : token_of bytes ≡ Some (Text inner) = cond-false _ _ _ no_name ∙ cond-false _ _ _ no_date ∙ cond-false _ _ _ no_number ∙ cond-true _ _ _ quoted in
-                    let same : Text inner ≡ token = cc in
-                    subst IsRead same (same_text bytes (Text inner) e (quoted_is bytes quoted))
-                | inr no_quoted ↦
-                    let found = find (λ sign. bytes_eq (sign_text sign) bytes) all_signs in
-                    let e : token_of bytes ≡ signed found = cond-false _ _ _ no_name ∙ cond-false _ _ _ no_date ∙ cond-false _ _ _ no_number ∙ cond-false _ _ _ no_quoted in
-                    signed_read found token (sym e ∙ spelled)
+      | inl name ↦
+          let found = find (λ word. bytes_eq (word_text word) bytes) all_words in
+          let e : token_of bytes ≡ Some (named bytes found) = cond-true _ _ _ name in
+          let same : named bytes found ≡ token = cc in
+          subst IsRead same (named_read bytes found e)
+      | inr no_name ↦
+          elim (cases_Bool (is_date bytes)) [
+            | inl date ↦
+                let e : token_of bytes ≡ Some (Date (year_of bytes) (month_of bytes) (day_of bytes)) = cond-false _ _ _ no_name ∙ cond-true _ _ _ date in
+                let same : Date (year_of bytes) (month_of bytes) (day_of bytes) ≡ token = cc in
+                subst IsRead same (same_text bytes (Date (year_of bytes) (month_of bytes) (day_of bytes)) e (date_is bytes (date_form bytes date)))
+            | inr no_date ↦
+                elim (cases_Bool (is_number bytes)) [
+                  | inl number ↦
+                      let e : token_of bytes ≡ Some (number_of bytes) = cond-false _ _ _ no_name ∙ cond-false _ _ _ no_date ∙ cond-true _ _ _ number in
+                      let same : number_of bytes ≡ token = cc in
+                      subst IsRead same (number_read bytes number)
+                  | inr no_number ↦
+                      elim (cases_Bool (is_quoted bytes)) [
+                        | inl quoted ↦
+                            let inner = take (length bytes - 2) (drop 1 bytes) in
+                            let e : token_of bytes ≡ Some (Text inner) = cond-false _ _ _ no_name ∙ cond-false _ _ _ no_date ∙ cond-false _ _ _ no_number ∙ cond-true _ _ _ quoted in
+                            let same : Text inner ≡ token = cc in
+                            subst IsRead same (same_text bytes (Text inner) e (quoted_is bytes quoted))
+                        | inr no_quoted ↦
+                            let found = find (λ sign. bytes_eq (sign_text sign) bytes) all_signs in
+                            let e : token_of bytes ≡ signed found = cond-false _ _ _ no_name ∙ cond-false _ _ _ no_date ∙ cond-false _ _ _ no_number ∙ cond-false _ _ _ no_quoted in
+                            signed_read found token (sym e ∙ spelled)
+                      ]
                 ]
-            ]
-        ]
+          ]
     ]

@@ -1,9 +1,9 @@
 -- The text of tokens falls into these tokens.
-use Rattle.std.proofs.Common.{◌≡◌, ℕ, zero, suc, ◌+◌, ◌-◌, ◌<◌, ◌≤◌, List, [], ◌∷◌, ◌++◌, length, length-append, take, drop, Some, None, refl, ◌∙◌, sym, ap, subst, arith}
+use Rattle.std.proofs.Common.{◌≡◌, ℕ, suc, ◌+◌, ◌-◌, List, [], ◌∷◌, ◌++◌, length, length-append, take, drop, Some, ◌∙◌, ap, arith}
 use Rattle.std.proofs.Math.Seq.{take-append_seam, take-append-add, drop-append_seam}
-use Rattle.smc_tokens.specs.Tokens.{space, token_of, TakesToken, PlacedToken, FallsInto, ended, spaced, taken}
+use Rattle.smc_tokens.specs.Tokens.{space, token_of, TakesToken, FallsInto, ended, spaced, taken}
 use Rattle.smc_tokens.specs.declared.token.Token.{Token}
-use Rattle.smc_print.specs.TokenText.{token_text, spaced_text, tokens_text}
+use Rattle.smc_print.specs.TokenText.{token_text, spaced_text}
 use Rattle.smc_print.specs.Laws.{IsRead, AreRead, placed, TextFallsIntoItsTokens}
 use Rattle.smc_print.proofs.BrokenTokens.{broken}
 

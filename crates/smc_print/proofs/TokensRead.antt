@@ -1,15 +1,13 @@
 -- The tokens of a printed query are read, where those that it was read from are.
-use Rattle.std.proofs.Common.{◌≡◌, ℕ, zero, suc, ◌+◌, ◌<◌, ◌≤◌, Bool, true, false, List, [], ◌∷◌, ◌++◌, length, map, Option, Some, None, append-nil, refl, ◌∙◌, sym, ap, subst, arith}
-use Rattle.std.specs.Prelude.{⊤}
-use Rattle.smc_tokens.specs.Tokens.{token_of, PlacedToken, FallsInto, ended, spaced, taken, refused}
+use Rattle.std.proofs.Common.{ℕ, ◌<◌, Bool, true, false, List, [], ◌∷◌, ◌++◌, length, Option, append-nil}
 use Rattle.smc_tokens.specs.declared.token.Token.{Token}
-use Rattle.smc_tokens.specs.declared.token.Token.TheVariants.{Name, Word, Date, Number, Text, Sign}
+use Rattle.smc_tokens.specs.declared.token.Token.TheVariants.{Name, Word, Sign}
 use Rattle.smc_tokens.specs.declared.reserved.Reserved.TheVariants as words
 use Rattle.smc_tokens.specs.declared.sign.Sign.{Sign as AnySign}
 use Rattle.smc_tokens.specs.declared.sign.Sign.TheVariants as signs
-use Rattle.smc_query.specs.Trees.{PathTree, ExprTree, sum, difference, product, minus, CondTree, either, both, negation, comparison, within, CallTree, ItemTree, KeyTree, QueryTree}
-use Rattle.smc_query.specs.Grammar.{op_sign, aggregate_word, ReadsPath, one_name, more_names, ReadsFactor, a_number, a_date, a_text, a_path, a_minus, parentheses, ReadsTerm, one_factor, a_product, ReadsExpr, one_term, a_sum, a_difference, ReadsNeg, a_negation, brackets, a_comparison, a_range, ReadsConj, one_neg, an_and, ReadsCond, one_conj, an_or, ReadsCall, a_count, an_aggregate, a_fold, ReadsItem, unnamed, named, ReadsItems, one_item, more_items, ReadsPaths, one_path, more_paths, ReadsKey, rising, falling, ReadsKeys, one_key, more_keys, ReadsFilter, no_filter, a_filter, ReadsBy, no_by, a_by, ReadsSort, no_sort, a_sort, ReadsFirst, no_first, a_first, ReadsQuery, a_query}
-use Rattle.smc_print.specs.Printed.{listed, between, path_tokens, is_compound, in_parentheses, expr_tokens, operand_tokens, is_joined, in_brackets, cond_tokens, side_tokens, argument_tokens, call_tokens, item_tokens, key_tokens, filter_tokens, by_tokens, show_tokens, sort_tokens, first_tokens, query_tokens}
+use Rattle.smc_query.specs.Trees.{PathTree, ExprTree, CondTree, CallTree, ItemTree, KeyTree, QueryTree}
+use Rattle.smc_query.specs.Grammar.{op_sign, ReadsPath, one_name, more_names, ReadsFactor, a_number, a_date, a_text, a_path, a_minus, parentheses, ReadsTerm, one_factor, a_product, ReadsExpr, one_term, a_sum, a_difference, ReadsNeg, a_negation, brackets, a_comparison, a_range, ReadsConj, one_neg, an_and, ReadsCond, one_conj, an_or, ReadsCall, a_count, an_aggregate, a_fold, ReadsItem, unnamed, named, ReadsItems, one_item, more_items, ReadsPaths, one_path, more_paths, ReadsKey, rising, falling, ReadsKeys, one_key, more_keys, ReadsFilter, no_filter, a_filter, ReadsBy, no_by, a_by, ReadsSort, no_sort, a_sort, ReadsFirst, no_first, a_first, ReadsQuery, a_query}
+use Rattle.smc_print.specs.Printed.{listed, path_tokens, is_compound, in_parentheses, expr_tokens, operand_tokens, is_joined, in_brackets, cond_tokens, side_tokens, call_tokens, item_tokens, key_tokens, filter_tokens, by_tokens, show_tokens, sort_tokens, first_tokens, query_tokens}
 use Rattle.smc_print.specs.Laws.{IsRead, AreRead}
 use Rattle.smc_print.proofs.WriteLaws.{listed_next, between_later}
 use Rattle.smc_print.proofs.ListPrints.{path_some, paths_some, keys_some}
@@ -192,9 +190,13 @@ query_read (a_query {f = f} {ps = ps} {is = is} {ks = ks} {k = k} filter by item
     let (paths, (show_is, behind_by)) = by_read by behind_filter in
     let (columns, behind_items) = items_read items behind_by in
     let (keys, behind_sort) = sort_read sort behind_items in
-    let rows = first_read first behind_sort in
-    (word, (name,
-      are_read (filter_tokens f) (by_tokens ps ++ (show_tokens is ++ (sort_tokens ks ++ first_tokens k))) filters
-        (are_read (by_tokens ps) (show_tokens is ++ (sort_tokens ks ++ first_tokens k)) paths
-          (are_read (show_tokens is) (sort_tokens ks ++ first_tokens k) (show_is, columns)
-            (are_read (sort_tokens ks) (first_tokens k) keys rows)))))
+    let rows = first_read first behind_sort in (
+      word,
+      (
+        name,
+        are_read (filter_tokens f) (by_tokens ps ++ (show_tokens is ++ (sort_tokens ks ++ first_tokens k))) filters
+            (are_read (by_tokens ps) (show_tokens is ++ (sort_tokens ks ++ first_tokens k)) paths
+            (are_read (show_tokens is) (sort_tokens ks ++ first_tokens k) (show_is, columns)
+            (are_read (sort_tokens ks) (first_tokens k) keys rows))),
+      ),
+    )

@@ -34,14 +34,21 @@ fn summary_items(alloc: Global) -> Result<Items, Fail> {
 fn the_price_summary_is_printed(rt: HostRuntime) -> Result<(), Fail> {
     let alloc = rt.alloc();
     let mut query = showing(alloc, shipped_before(alloc)?, summary_items(alloc)?)?;
-    query.by = two(alloc, path(alloc, &["returnflag"])?, path(alloc, &["linestatus"])?)?;
+    query.by = two(
+        alloc,
+        path(alloc, &["returnflag"])?,
+        path(alloc, &["linestatus"])?,
+    )?;
     query.sort = two_keys(
         alloc,
         path(alloc, &["returnflag"])?,
         false,
         path(alloc, &["linestatus"])?,
     )?;
-    assert_eq!(rt; print(alloc, &query)?.as_str(), "from lineitem where shipdate <= 1998-12-01 - 90 by returnflag , linestatus show sum ( extendedprice * ( 1 - discount ) ) , sum ( ( extendedprice * ( 1 - discount ) ) * ( 1 + tax ) ) , avg ( discount ) , count ( ) sort returnflag , linestatus");
+    assert_eq!(rt;
+        print(alloc, &query)?.as_str(),
+        "from lineitem where shipdate <= 1998-12-01 - 90 by returnflag , linestatus show sum ( extendedprice * ( 1 - discount ) ) , sum ( ( extendedprice * ( 1 - discount ) ) * ( 1 + tax ) ) , avg ( discount ) , count ( ) sort returnflag , linestatus"
+    );
     Ok(())
 }
 
@@ -61,8 +68,16 @@ fn late_building(alloc: Global) -> Result<Cond, Fail> {
 #[test]
 fn the_shipping_priority_is_printed(rt: HostRuntime) -> Result<(), Fail> {
     let alloc = rt.alloc();
-    let mut query = showing(alloc, late_building(alloc)?, one(alloc, named_revenue(alloc)?)?)?;
-    query.by = two(alloc, path(alloc, &["orderkey"])?, path(alloc, &["order", "orderdate"])?)?;
+    let mut query = showing(
+        alloc,
+        late_building(alloc)?,
+        one(alloc, named_revenue(alloc)?)?,
+    )?;
+    query.by = two(
+        alloc,
+        path(alloc, &["orderkey"])?,
+        path(alloc, &["order", "orderdate"])?,
+    )?;
     query.sort = two_keys(
         alloc,
         path(alloc, &["revenue"])?,
@@ -70,19 +85,37 @@ fn the_shipping_priority_is_printed(rt: HostRuntime) -> Result<(), Fail> {
         path(alloc, &["order", "orderdate"])?,
     )?;
     query.first = Some(10);
-    assert_eq!(rt; print(alloc, &query)?.as_str(), "from lineitem where [ order . customer . mktsegment = 'BUILDING' and order . orderdate < 1995-03-15 ] and shipdate > 1995-03-15 by orderkey , order . orderdate show sum ( extendedprice * ( 1 - discount ) ) as revenue sort revenue desc , order . orderdate first 10");
+    assert_eq!(rt;
+        print(alloc, &query)?.as_str(),
+        "from lineitem where [ order . customer . mktsegment = 'BUILDING' and order . orderdate < 1995-03-15 ] and shipdate > 1995-03-15 by orderkey , order . orderdate show sum ( extendedprice * ( 1 - discount ) ) as revenue sort revenue desc , order . orderdate first 10"
+    );
     Ok(())
 }
 
 fn local(alloc: Global) -> Result<Cond, Fail> {
     let supplier = field(alloc, &["supplier", "nationkey"])?;
-    is(alloc, &["order", "customer", "nationkey"], Op::Equal, supplier)
+    is(
+        alloc,
+        &["order", "customer", "nationkey"],
+        Op::Equal,
+        supplier,
+    )
 }
 
 fn local_in_asia(alloc: Global) -> Result<Cond, Fail> {
     let text = quoted(alloc, "ASIA")?;
-    let asia = is(alloc, &["supplier", "nation", "region", "name"], Op::Equal, text)?;
-    let from = is(alloc, &["order", "orderdate"], Op::GreaterEqual, date(1994, 1, 1))?;
+    let asia = is(
+        alloc,
+        &["supplier", "nation", "region", "name"],
+        Op::Equal,
+        text,
+    )?;
+    let from = is(
+        alloc,
+        &["order", "orderdate"],
+        Op::GreaterEqual,
+        date(1994, 1, 1),
+    )?;
     let first = both(alloc, asia, from)?;
     both(alloc, first, local(alloc)?)
 }
@@ -90,8 +123,15 @@ fn local_in_asia(alloc: Global) -> Result<Cond, Fail> {
 #[test]
 fn the_local_supplier_volume_is_printed(rt: HostRuntime) -> Result<(), Fail> {
     let alloc = rt.alloc();
-    let query = showing(alloc, local_in_asia(alloc)?, one(alloc, named_revenue(alloc)?)?)?;
-    assert_eq!(rt; print(alloc, &query)?.as_str(), "from lineitem where [ supplier . nation . region . name = 'ASIA' and order . orderdate >= 1994-01-01 ] and order . customer . nationkey = supplier . nationkey show sum ( extendedprice * ( 1 - discount ) ) as revenue");
+    let query = showing(
+        alloc,
+        local_in_asia(alloc)?,
+        one(alloc, named_revenue(alloc)?)?,
+    )?;
+    assert_eq!(rt;
+        print(alloc, &query)?.as_str(),
+        "from lineitem where [ supplier . nation . region . name = 'ASIA' and order . orderdate >= 1994-01-01 ] and order . customer . nationkey = supplier . nationkey show sum ( extendedprice * ( 1 - discount ) ) as revenue"
+    );
     Ok(())
 }
 
@@ -110,7 +150,10 @@ fn the_revenue_forecast_is_printed(rt: HostRuntime) -> Result<(), Fail> {
     let alloc = rt.alloc();
     let items = one(alloc, unnamed(ItemCall::Sum(field(alloc, &["discount"])?)))?;
     let query = showing(alloc, discounted(alloc)?, items)?;
-    assert_eq!(rt; print(alloc, &query)?.as_str(), "from lineitem where discount between 0.05 and 0.07 and quantity < 24 show sum ( discount )");
+    assert_eq!(rt;
+        print(alloc, &query)?.as_str(),
+        "from lineitem where discount between 0.05 and 0.07 and quantity < 24 show sum ( discount )"
+    );
     Ok(())
 }
 
@@ -133,7 +176,14 @@ fn negated(alloc: Global) -> Result<Cond, Fail> {
 #[test]
 fn operands_stand_in_parentheses_and_brackets(rt: HostRuntime) -> Result<(), Fail> {
     let alloc = rt.alloc();
-    let query = showing(alloc, negated(alloc)?, one(alloc, unnamed(ItemCall::Count))?)?;
-    assert_eq!(rt; print(alloc, &query)?.as_str(), "from lineitem where not [ [ not - ( - ( 7 - ( 2 - 1.0 ) ) ) <> 1.2345 ] or 1 = 1 ] show count ( )");
+    let query = showing(
+        alloc,
+        negated(alloc)?,
+        one(alloc, unnamed(ItemCall::Count))?,
+    )?;
+    assert_eq!(rt;
+        print(alloc, &query)?.as_str(),
+        "from lineitem where not [ [ not - ( - ( 7 - ( 2 - 1.0 ) ) ) <> 1.2345 ] or 1 = 1 ] show count ( )"
+    );
     Ok(())
 }

@@ -1,4 +1,4 @@
-use Rattle.std.proofs.Common.{List, [], ◌∷◌}
+use Rattle.std.proofs.Common.{[], ◌∷◌}
 use Rattle.smc_tokens.specs.declared.sign.Sign.TheVariants as signs
 use Rattle.smc_tokens.specs.declared.token.Token.TheVariants.{Name}
 use Rattle.smc_print.proofs.expr.write_path.Goals as goal

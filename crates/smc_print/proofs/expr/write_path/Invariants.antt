@@ -1,6 +1,4 @@
-use Rattle.std.proofs.Common.{List, [], ◌∷◌, take}
-use Rattle.smc_tokens.specs.declared.sign.Sign.TheVariants as signs
-use Rattle.smc_tokens.specs.declared.token.Token.TheVariants.{Name}
+use Rattle.std.proofs.Common.{take}
 use Rattle.smc_print.specs.TokenText.{Writes}
 use Rattle.smc_print.specs.Printed.{path_tokens}
 use Rattle.smc_print.proofs.expr.write_path.Given as goal
