@@ -1,5 +1,5 @@
 //! Texts that are read, and what of them.
-use crate::{Cond, Expr, ParseFault, Query, parse, parse_cond, parse_edit};
+use crate::{Cond, Expr, ParseFault, Query, parse, parse_cond, parse_edit, print};
 use std::alloc::Global;
 use std::test::Fail;
 
@@ -14,7 +14,7 @@ fn outline(alloc: Global, query: &Query) -> Result<String, Fail> {
 }
 
 #[test]
-fn four_queries_after_tpc_h_are_read(rt: HostRuntime) -> Result<(), Fail> {
+fn four_queries_after_tpc_h_are_read_printed_and_read_again(rt: HostRuntime) -> Result<(), Fail> {
     let alloc = rt.alloc();
     let queries = [
         (
@@ -38,6 +38,10 @@ fn four_queries_after_tpc_h_are_read(rt: HostRuntime) -> Result<(), Fail> {
         let query = parse(alloc, text)?;
         assert_eq!(rt; outline(alloc, &query)?.as_str(), wanted, "{text}");
         assert!(rt; query.filter.is_some());
+        let printed = print(alloc, &query)?;
+        let again = parse(alloc, printed.as_str())?;
+        assert_eq!(rt; outline(alloc, &again)?.as_str(), wanted, "{text}");
+        assert_eq!(rt; print(alloc, &again)?.as_str(), printed.as_str());
     }
     Ok(())
 }

@@ -1,4 +1,4 @@
-ghost use Rattle.smc_lang.specs.Laws.{IsOneThing, IsSomething};
+ghost use Rattle.smc_lang.specs.Laws.{IsOneThing, IsSomething, PrintedIsRead};
 
 use smc_query::laws::{fronts_begin, one_tree, spelled_or_stopped};
 use smc_tokens::laws::one_list;
@@ -19,4 +19,11 @@ pub fn is_something()
     ensures { IsSomething }
 {
     spelled_or_stopped();
+}
+
+/// A parsed query is parsed again from its printed text, as this query, where that is within the limits.
+pub fn printed_is_read()
+    ensures { PrintedIsRead }
+{
+    smc_print::laws::printed_is_read();
 }
