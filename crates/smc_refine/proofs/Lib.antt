@@ -1,3 +1,4 @@
+pub mod ScanSteps
 pub mod EventLaws
 pub mod OrderSteps
 pub mod Ordered
