@@ -1,3 +1,5 @@
+pub mod HomeLaws
+pub mod Histories
 pub mod ScanSteps
 pub mod EventLaws
 pub mod OrderSteps
