@@ -93,7 +93,7 @@ module _ (events : List Event) (world : World) (m : Marks) (k : ℕ) where
   HistoryOf es marks b = ScanHistory es (marks.began k) (marks.visited k) k b
 
   -- an event of another scan
-  pub history-other : (e : Option Event) (b c : Scan) (began visited : Number → Bool) → HistoryOf events m b → c.coll ≡ b.coll → c.ended ≡ b.ended
+  pub history-other : (e : Option Event) (b c : Scan) (began visited : Number → Bool) → HistoryOf events m b → c.coll ≡ b.coll → (c.ended ≡ false → b.ended ≡ false)
       → ((y : Event) → e ≡ Some y → spoken y ≢ Some k)
       → ((n : Number) → began n ≡ m.began k n) → ((n : Number) → visited n ≡ m.visited k n)
       → ScanHistory (events ++ told_of e) began visited k c
@@ -106,7 +106,7 @@ module _ (events : List Event) (world : World) (m : Marks) (k : ℕ) where
     present = λ n. bg n ∙ h.present n;
     marked = λ n is. Contains-append_left h.later (told_of e) (event.Visit k n) (h.marked n (sym (vs n) ∙ is));
     met = λ n at. vs n ∙ h.met n (older h.later e k (event.Visit k n) other refl at);
-    lasts = λ going at. h.lasts (sym end ∙ going) (older h.later e k (event.End k) other refl at);
+    lasts = λ going at. h.lasts (end going) (older h.later e k (event.End k) other refl at);
   }
 
   -- a visit of it

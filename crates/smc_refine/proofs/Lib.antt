@@ -1,3 +1,4 @@
+pub mod ScansKnown
 pub mod HomeLaws
 pub mod Histories
 pub mod ScanSteps

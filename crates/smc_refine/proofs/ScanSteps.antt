@@ -84,7 +84,7 @@ ScansTold i scans begun later count (Some (event.End k)) = ((coll : ℕ) × HasO
 ScansTold i scans begun later count _ = GoOn scans later × (count ≡ begun)
 
 -- and the scan that the call goes on with is open
-record StepScans (i : ℕ) (scans : List Scan) (begun : ℕ) (later : List Scan) (count : ℕ) (c : Change) : Type 0 where
+pub record StepScans (i : ℕ) (scans : List Scan) (begun : ℕ) (later : List Scan) (count : ℕ) (c : Change) : Type 0 where
   pub told : ScansTold i scans begun later count c.event
   pub is_open : IsOpen later c.phase
 
@@ -278,7 +278,7 @@ module _ (shape : Layout) (i : ℕ) (stand : Stand) where
       go true = quiet i stand.scans stand.begun (tells (event.Remove n false) done.Late) refl refl
       go false = quiet i stand.scans stand.begun (goes_telling (event.Remove n true) (phase.Remove (remove.LeaveSlot slot n))) refl refl
 
-  going : (section : Section) (next : Phase) (w : Word)
+  pub going : (section : Section) (next : Phase) (w : Word)
       → ((l : LookPhase) (k c t : ℕ) → next ≡ phase.Look l → seeker_of l ≡ seeker.Scan k c t → HasOpen stand.scans k (sought_number l).coll)
       → ((s : ScanPhase) (k : ℕ) → next ≡ phase.Scan s → way_scan s ≡ Some k → (coll : ℕ) × HasOpen stand.scans k coll)
       → StepScans i stand.scans stand.begun (scans_after shape i stand section next Go w) stand.begun (go_change shape stand section next w)
@@ -303,7 +303,7 @@ module _ (shape : Layout) (i : ℕ) (stand : Stand) where
   going section (phase.Cancel next) w hl hs = quiet i stand.scans stand.begun (go_change shape stand section (phase.Cancel next) w) (grind (arith, nat_tests)) (grind (arith, nat_tests))
   going section (phase.Survey next) w hl hs = quiet i stand.scans stand.begun (go_change shape stand section (phase.Survey next) w) (grind (arith, nat_tests)) (grind (arith, nat_tests))
 
-  starting : (section : Section) (next : Call) (told : ℕ) (w : Word)
+  pub starting : (section : Section) (next : Call) (told : ℕ) (w : Word)
       → StepScans i stand.scans stand.begun (scans_after shape i stand section phase.Idle (Start next) w) (begun_after stand.begun (Start next)) (start_change shape i stand section next told w)
   starting section (call.Scan c) told w = record {
     told = (refl, refl, refl);
