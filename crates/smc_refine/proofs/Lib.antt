@@ -1,3 +1,6 @@
+pub mod OpenScans
+pub mod OwnScans
+pub mod ScanCalls
 pub mod ScansKnown
 pub mod HomeLaws
 pub mod Histories

@@ -1,47 +1,31 @@
--- What a step makes of the scans of its pass's section, by the event that it tells.
+-- What steps of scans and of look-ups make of their section's scans, by the event that they tell.
 use Rattle.std.proofs.Common.{◌≡◌, ◌≢◌, ◌⊎◌, ℕ, ◌+◌, ◌==◌, Bool, true, false, Option, Some, None, List, [], ◌∷◌, ◌++◌, inl, inr, refl, sym, ap, ◌∙◌, arith}
 use Rattle.std.specs.Prelude.{nat_lt, if◌then◌else◌}
 use Rattle.std.proofs.lemmas.Bool.Decides.{nat_tests}
 use Rattle.smc_words.specs.declared.number.Number.{Number}
 use Rattle.smc_shape.specs.Layout.{Layout, slots_of}
-use Rattle.smc_shape.specs.declared.place.Place.TheVariants as place
 use Rattle.smc_model.specs.declared.event.Event.{Event}
 use Rattle.smc_model.specs.declared.event.Event.TheVariants as event
-use Rattle.smc_core.specs.declared.call.Call.{Call}
-use Rattle.smc_core.specs.declared.call.Call.TheVariants as call
-use Rattle.smc_core.specs.declared.call.Choice.TheVariants.{Start, Go}
 use Rattle.smc_core.specs.declared.change.Change.{Change}
 use Rattle.smc_core.specs.declared.done.Done.TheVariants as done
 use Rattle.smc_core.specs.declared.local.Scan.{Scan}
-use Rattle.smc_core.specs.declared.local.Stand.{Stand}
 use Rattle.smc_core.specs.declared.phase.Phase.{Phase}
 use Rattle.smc_core.specs.declared.phase.Phase.TheVariants as phase
-use Rattle.smc_core.specs.declared.phase.objects.AddPhase.{AddPhase}
-use Rattle.smc_core.specs.declared.phase.objects.AddPhase.TheVariants as add
 use Rattle.smc_core.specs.declared.phase.objects.Finding.{Finding}
 use Rattle.smc_core.specs.declared.phase.objects.Finding.TheVariants.{Absent, Stays, Abandons, Helps}
-use Rattle.smc_core.specs.declared.phase.objects.LookPhase.{LookPhase}
 use Rattle.smc_core.specs.declared.phase.objects.LookPhase.TheVariants as look
-use Rattle.smc_core.specs.declared.phase.objects.RemovePhase.TheVariants as remove
 use Rattle.smc_core.specs.declared.phase.objects.ScanPhase.{ScanPhase}
 use Rattle.smc_core.specs.declared.phase.objects.ScanPhase.TheVariants as scan
 use Rattle.smc_core.specs.declared.phase.objects.Seeker.{Seeker}
 use Rattle.smc_core.specs.declared.phase.objects.Seeker.TheVariants as seeker
-use Rattle.smc_core.specs.declared.section.Section.{Section}
-use Rattle.smc_core.specs.declared.section.Section.TheVariants.{Outside, Loaded, Announced, Again, Lasting, Inside}
-use Rattle.smc_core.specs.declared.word.State as E
 use Rattle.smc_core.specs.declared.word.Word.{Word}
 use Rattle.smc_core.specs.declared.word.Word.TheVariants as word
-use Rattle.smc_core.specs.Add.{add_change}
-use Rattle.smc_core.specs.Change.{go_change, start_change, next_started, look_started, remove_started}
-use Rattle.smc_core.specs.Local.{scans_after, begun_after, next_after}
-use Rattle.smc_core.specs.Look.{sought_number, seeker_of, look_finding, look_change, looking_change, visits, passes}
-use Rattle.smc_core.specs.Offer.{held_slot}
-use Rattle.smc_core.specs.Row.{has_place}
+use Rattle.smc_core.specs.Change.{next_started}
+use Rattle.smc_core.specs.Local.{next_after}
+use Rattle.smc_core.specs.Look.{seeker_of, look_change, visits, passes}
 use Rattle.smc_core.specs.Scan.{scan_of, new_scan, scan_number, passed, ended, is_over, is_scanned, scan_scans, scan_change, look_scans}
-use Rattle.smc_core.specs.Section.{epoch_of, is_calm}
-use Rattle.smc_core.specs.Step.{goes, goes_telling, ends, tells}
-use Rattle.smc_core.specs.Words.{state_of, dir_of, is_gone}
+use Rattle.smc_core.specs.Step.{goes, ends}
+use Rattle.smc_core.specs.Words.{dir_of}
 use Rattle.smc_inv_scan.proofs.ListLaws.{scan_of-number}
 
 -- the scan that a call goes on with
@@ -130,7 +114,7 @@ ended-on (first ∷ later) k j b is = go (ended-on later k j b) (first.number ==
 
 -- ---- steps that tell nothing of scans, and go on with none
 
-abbrev is_quiet : Option Event → Bool
+abbrev pub is_quiet : Option Event → Bool
 is_quiet (Some (event.Begin k coll)) = false
 is_quiet (Some (event.Visit k number)) = false
 is_quiet (Some (event.End k)) = false
@@ -151,15 +135,17 @@ quiet-told i scans begun later (Some event.Enter) q g = (g, refl)
 quiet-told i scans begun later (Some event.Leave) q g = (g, refl)
 quiet-told i scans begun later (Some (event.Told p c)) q g = (g, refl)
 
-closed : (scans : List Scan) (ph : Phase) → scan_in ph ≡ None → IsOpen scans ph
+-- no scan is gone on with
+pub closed : (scans : List Scan) (ph : Phase) → scan_in ph ≡ None → IsOpen scans ph
 closed scans ph nothing k b is at = absurd (cc)
 
-quiet : (i : ℕ) (scans : List Scan) (begun : ℕ) (c : Change) → is_quiet c.event ≡ true → scan_in c.phase ≡ None → StepScans i scans begun scans begun c
+pub quiet : (i : ℕ) (scans : List Scan) (begun : ℕ) (c : Change) → is_quiet c.event ≡ true → scan_in c.phase ≡ None → StepScans i scans begun scans begun c
 quiet i scans begun c q n = record { told = quiet-told i scans begun scans c.event q (same-scans scans); is_open = closed scans c.phase n }
 
 -- ---- steps of scans
 
 module _ (shape : Layout) (i : ℕ) (scans : List Scan) (begun : ℕ) where
+  -- it is gone on with
   passes-in : (k c t : ℕ) → scan_in (passes shape k c t) ≡ Some k
   passes-in k c t = go (nat_lt (t + 1) (slots_of shape c))
     where
@@ -176,16 +162,19 @@ module _ (shape : Layout) (i : ℕ) (scans : List Scan) (begun : ℕ) where
       let eq : old ≡ h.0 = grind (arith, one) in
       end ∙ (ap (λ (x : Scan). x.ended) eq ∙ h.2)
 
+  -- a scan that passes a slot
   passing : (k c t coll : ℕ) → HasOpen scans k coll → StepScans i scans begun (passed scans k (t + 1)) begun (goes (passes shape k c t))
   passing k c t coll h = record {
     told = (passed-on scans k (t + 1), refl);
     is_open = stays_open (passed scans k (t + 1)) k coll (passes shape k c t) (passed-on scans k (t + 1)) h (passes-in k c t);
   }
 
+  -- one that stays where it is
   going_on : (k coll : ℕ) (ph : Phase) → HasOpen scans k coll → scan_in ph ≡ Some k → StepScans i scans begun scans begun (goes ph)
   going_on k coll ph h is = record { told = (same-scans scans, refl); is_open = stays_open scans k coll ph (same-scans scans) h is }
 
-  looking : (who : Seeker) (n : Number) (finding : Finding) → ((k c t : ℕ) → who ≡ seeker.Scan k c t → HasOpen scans k n.coll)
+  -- a look-up, which a caller or a scan makes
+  pub looking : (who : Seeker) (n : Number) (finding : Finding) → ((k c t : ℕ) → who ≡ seeker.Scan k c t → HasOpen scans k n.coll)
       → StepScans i scans begun (look_scans scans who finding) begun (look_change shape who n finding)
   looking seeker.Caller n Absent h = quiet i scans begun (look_change shape seeker.Caller n Absent) refl refl
   looking seeker.Caller n (Stays there) h = quiet i scans begun (look_change shape seeker.Caller n (Stays there)) refl refl
@@ -200,7 +189,8 @@ module _ (shape : Layout) (i : ℕ) (scans : List Scan) (begun : ℕ) where
   looking (seeker.Scan k c t) n (Abandons there) h = going_on k n.coll (phase.Look (look.Abandon (seeker.Scan k c t) n there)) (h k c t refl) refl
   looking (seeker.Scan k c t) n (Helps there copy) h = going_on k n.coll (phase.Look (look.Help (seeker.Scan k c t) n there copy)) (h k c t refl) refl
 
-  scanning : (next : ScanPhase) (w : Word) → ((k : ℕ) → way_scan next ≡ Some k → (coll : ℕ) × HasOpen scans k coll)
+  -- a scan on its way
+  pub scanning : (next : ScanPhase) (w : Word) → ((k : ℕ) → way_scan next ≡ Some k → (coll : ℕ) × HasOpen scans k coll)
       → StepScans i scans begun (scan_scans scans next w) begun (scan_change shape next w)
   scanning (scan.Directory k c t) w h = go (is_scanned (dir_of w))
     where
@@ -217,7 +207,7 @@ module _ (shape : Layout) (i : ℕ) (scans : List Scan) (begun : ℕ) where
   scanning (scan.End k) w h = record { told = (h k refl, ended-on scans k, refl); is_open = closed (ended scans k) phase.Idle refl }
 
   -- going on with a scan
-  continuing : (k : ℕ) (o : Option Scan) (w : Word) → scan_of scans k ≡ o → StepScans i scans begun (next_after shape scans o w) begun (next_started shape o w)
+  pub continuing : (k : ℕ) (o : Option Scan) (w : Word) → scan_of scans k ≡ o → StepScans i scans begun (next_after shape scans o w) begun (next_started shape o w)
   continuing k None w is = quiet i scans begun (goes phase.Idle) refl refl
   continuing k (Some b) w is = go b.ended (is_over shape b) refl
     where
@@ -233,94 +223,3 @@ module _ (shape : Layout) (i : ℕ) (scans : List Scan) (begun : ℕ) where
       go true y e = quiet i scans begun (ends done.End) refl refl
       go false true e = scanning (scan.End b.number) w (λ j s. has e j (number j s))
       go false false e = scanning (scan.Directory b.number b.coll b.place) w (λ j s. has e j (number j s))
-
--- ---- all steps
-
-module _ (shape : Layout) (i : ℕ) (stand : Stand) where
-  adding : (epoch : ℕ) (next : AddPhase) (w : Word) → StepScans i stand.scans stand.begun stand.scans stand.begun (add_change shape epoch stand.words next w)
-  adding epoch next w = quiet i stand.scans stand.begun (add_change shape epoch stand.words next w) (silent next) (ahead next)
-    where
-      silent : (next : AddPhase) → is_quiet (add_change shape epoch stand.words next w).event ≡ true
-      silent (add.FindSlot c k slot t) = grind (arith, nat_tests)
-      silent (add.ClaimSlot c k slot t d) = grind (arith, nat_tests)
-      silent (add.FindEntry c slot n t) = grind (arith, nat_tests)
-      silent (add.ClaimEntry c slot n t a z) = grind (arith, nat_tests)
-      silent (add.DropSlot c slot) = refl
-      silent (add.StoreBack slot n) = grind (arith, nat_tests)
-      silent (add.StoreField slot n f) = grind (arith, nat_tests)
-      silent (add.StoreValid slot n) = refl
-      silent (add.StoreLive slot n) = refl
-
-      ahead : (next : AddPhase) → scan_in (add_change shape epoch stand.words next w).phase ≡ None
-      ahead (add.FindSlot c k slot t) = grind (arith, nat_tests)
-      ahead (add.ClaimSlot c k slot t d) = grind (arith, nat_tests)
-      ahead (add.FindEntry c slot n t) = grind (arith, nat_tests)
-      ahead (add.ClaimEntry c slot n t a z) = grind (arith, nat_tests)
-      ahead (add.DropSlot c slot) = refl
-      ahead (add.StoreBack slot n) = grind (arith, nat_tests)
-      ahead (add.StoreField slot n f) = grind (arith, nat_tests)
-      ahead (add.StoreValid slot n) = refl
-      ahead (add.StoreLive slot n) = refl
-
-  -- a caller's look-up
-  looked : (cm : Bool) (n : Number) (w : Word) → StepScans i stand.scans stand.begun stand.scans stand.begun (look_started shape cm n w)
-  looked cm n w = go (has_place shape (place.Entry n.coll n.entry))
-    where
-      go : (b : Bool) → StepScans i stand.scans stand.begun stand.scans stand.begun (if b then looking_change shape cm (look.Load seeker.Caller n) w else tells (event.Look n false) done.Null)
-      go true = looking shape i stand.scans stand.begun seeker.Caller n (look_finding shape cm (look.Load seeker.Caller n) w) (λ k c t e. absurd (cc))
-      go false = quiet i stand.scans stand.begun (tells (event.Look n false) done.Null) refl refl
-
-  removing : (n : Number) (held : Option ℕ) (v : E.State) → StepScans i stand.scans stand.begun stand.scans stand.begun (remove_started n held v)
-  removing n None v = quiet i stand.scans stand.begun (goes phase.Idle) refl refl
-  removing n (Some slot) v = go (is_gone v)
-    where
-      go : (b : Bool) → StepScans i stand.scans stand.begun stand.scans stand.begun (if b then tells (event.Remove n false) done.Late else goes_telling (event.Remove n true) (phase.Remove (remove.LeaveSlot slot n)))
-      go true = quiet i stand.scans stand.begun (tells (event.Remove n false) done.Late) refl refl
-      go false = quiet i stand.scans stand.begun (goes_telling (event.Remove n true) (phase.Remove (remove.LeaveSlot slot n))) refl refl
-
-  pub going : (section : Section) (next : Phase) (w : Word)
-      → ((l : LookPhase) (k c t : ℕ) → next ≡ phase.Look l → seeker_of l ≡ seeker.Scan k c t → HasOpen stand.scans k (sought_number l).coll)
-      → ((s : ScanPhase) (k : ℕ) → next ≡ phase.Scan s → way_scan s ≡ Some k → (coll : ℕ) × HasOpen stand.scans k coll)
-      → StepScans i stand.scans stand.begun (scans_after shape i stand section next Go w) stand.begun (go_change shape stand section next w)
-  going section (phase.Look next) w hl hs = looking shape i stand.scans stand.begun (seeker_of next) (sought_number next) (look_finding shape (is_calm section) next w) (λ k c t. hl next k c t refl)
-  going section (phase.Scan next) w hl hs = scanning shape i stand.scans stand.begun next w (λ k. hs next k refl)
-  going section (phase.Add next) w hl hs = adding (epoch_of section) next w
-  going section phase.Idle w hl hs = quiet i stand.scans stand.begun (go_change shape stand section phase.Idle w) refl refl
-  going section phase.Entering w hl hs = enters section
-    where
-      enters : (section : Section) → StepScans i stand.scans stand.begun stand.scans stand.begun (go_change shape stand section phase.Entering w)
-      enters Outside = quiet i stand.scans stand.begun (go_change shape stand Outside phase.Entering w) refl refl
-      enters (Loaded v) = quiet i stand.scans stand.begun (go_change shape stand (Loaded v) phase.Entering w) refl refl
-      enters (Announced v) = quiet i stand.scans stand.begun (go_change shape stand (Announced v) phase.Entering w) refl refl
-      enters (Again v z) = quiet i stand.scans stand.begun (go_change shape stand (Again v z) phase.Entering w) refl refl
-      enters (Lasting z) = quiet i stand.scans stand.begun (go_change shape stand (Lasting z) phase.Entering w) refl refl
-      enters (Inside x cm) = quiet i stand.scans stand.begun (go_change shape stand (Inside x cm) phase.Entering w) refl refl
-  going section (phase.Advancing epoch other) w hl hs = quiet i stand.scans stand.begun (go_change shape stand section (phase.Advancing epoch other) w) (grind (arith, nat_tests)) (grind (arith, nat_tests))
-  going section (phase.Ready epoch) w hl hs = quiet i stand.scans stand.begun (go_change shape stand section (phase.Ready epoch) w) (grind (arith, nat_tests)) (grind (arith, nat_tests))
-  going section (phase.Remove next) w hl hs = quiet i stand.scans stand.begun (go_change shape stand section (phase.Remove next) w) (grind (arith, nat_tests)) (grind (arith, nat_tests))
-  going section (phase.Begin next) w hl hs = quiet i stand.scans stand.begun (go_change shape stand section (phase.Begin next) w) (grind (arith, nat_tests)) (grind (arith, nat_tests))
-  going section (phase.Finish next) w hl hs = quiet i stand.scans stand.begun (go_change shape stand section (phase.Finish next) w) (grind (arith, nat_tests)) (grind (arith, nat_tests))
-  going section (phase.Cancel next) w hl hs = quiet i stand.scans stand.begun (go_change shape stand section (phase.Cancel next) w) (grind (arith, nat_tests)) (grind (arith, nat_tests))
-  going section (phase.Survey next) w hl hs = quiet i stand.scans stand.begun (go_change shape stand section (phase.Survey next) w) (grind (arith, nat_tests)) (grind (arith, nat_tests))
-
-  pub starting : (section : Section) (next : Call) (told : ℕ) (w : Word)
-      → StepScans i stand.scans stand.begun (scans_after shape i stand section phase.Idle (Start next) w) (begun_after stand.begun (Start next)) (start_change shape i stand section next told w)
-  starting section (call.Scan c) told w = record {
-    told = (refl, refl, refl);
-    is_open = closed (stand.scans ++ new_scan (scan_number i stand.begun) c ∷ []) phase.Idle refl;
-  }
-  starting section (call.Next k) told w = continuing shape i stand.scans stand.begun k (scan_of stand.scans k) w refl
-  starting section call.Leave told w = record { told = (λ j b is. absurd (cc), refl); is_open = λ k b is at. absurd (cc) }
-  starting section (call.Look n) told w = looked (is_calm section) n w
-  starting section (call.Remove n) told w = removing n (held_slot stand.held n) (state_of w)
-  starting section call.Enter told w = quiet i stand.scans stand.begun (start_change shape i stand section call.Enter told w) refl refl
-  starting section call.Advance told w = quiet i stand.scans stand.begun (start_change shape i stand section call.Advance told w) (grind (arith, nat_tests)) (grind (arith, nat_tests))
-  starting section (call.Add c k ws) told w = quiet i stand.scans stand.begun (start_change shape i stand section (call.Add c k ws) told w) (grind (arith, nat_tests)) (grind (arith, nat_tests))
-  starting section (call.Read n f) told w = quiet i stand.scans stand.begun (start_change shape i stand section (call.Read n f) told w) refl refl
-  starting section (call.Write n f v) told w = quiet i stand.scans stand.begun (start_change shape i stand section (call.Write n f v) told w) refl refl
-  starting section (call.Begin c) told w = quiet i stand.scans stand.begun (start_change shape i stand section (call.Begin c) told w) (grind (arith, nat_tests)) (grind (arith, nat_tests))
-  starting section call.Finish told w = quiet i stand.scans stand.begun (start_change shape i stand section call.Finish told w) (grind (arith, nat_tests)) (grind (arith, nat_tests))
-  starting section call.Cancel told w = quiet i stand.scans stand.begun (start_change shape i stand section call.Cancel told w) (grind (arith, nat_tests)) (grind (arith, nat_tests))
-  starting section (call.Survey c) told w = quiet i stand.scans stand.begun (start_change shape i stand section (call.Survey c) told w) (grind (arith, nat_tests)) (grind (arith, nat_tests))
-  starting section call.Note told w = quiet i stand.scans stand.begun (start_change shape i stand section call.Note told w) refl refl
-  starting section (call.Learn k z) told w = quiet i stand.scans stand.begun (start_change shape i stand section (call.Learn k z) told w) refl refl
