@@ -1,3 +1,10 @@
+pub mod OpenScans
+pub mod OwnScans
+pub mod ScanCalls
+pub mod ScansKnown
+pub mod HomeLaws
+pub mod Histories
+pub mod ScanSteps
 pub mod EventLaws
 pub mod OrderSteps
 pub mod Ordered

@@ -1,4 +1,4 @@
--- After every list of steps the logs have one order, and it replays.
+-- After every list of steps the logs have one order, it replays, and scans visit once in it.
 use Rattle.std.proofs.Common.{◌≡◌, ℕ, zero, suc, ◌<◌, ◌≤◌, Bool, true, false, Option, Some, None, List, [], ◌∷◌, ◌++◌, length, append-nil, refl, sym, ap, ◌∙◌, subst, arith}
 use Rattle.std.specs.Prelude.{IfSome, ◌==◌, ◌||◌, slice_get, slice_set, option_and_then, replicate, if◌then◌else◌}
 use Rattle.std.proofs.lemmas.List.{length-replicate, map-append}
@@ -8,7 +8,7 @@ use Rattle.smc_model.specs.declared.event.Event.{Event}
 use Rattle.smc_model.specs.Order.{OneOrder, IsTold, events_of, events_by, log_of}
 use Rattle.smc_model.specs.Scans.{EachAfter}
 use Rattle.smc_model.specs.World.{World, IsAllowed, Replay, empty_world}
-use Rattle.smc_model.proofs.HistoryLaws.{EachAfter-join, Replay-join}
+use Rattle.smc_model.proofs.HistoryLaws.{EachAfter-join, Replay-join, Replay-last}
 use Rattle.smc_model.proofs.OrderLaws.{events_by-append}
 use Rattle.smc_core.specs.declared.call.Call.{Call}
 use Rattle.smc_core.specs.declared.call.Call.TheVariants as call
@@ -29,8 +29,10 @@ use Rattle.smc_rules.proofs.MirrorLaws.{mirrored}
 use Rattle.smc_inv_range.proofs.StepLaws.{suits_first}
 use Rattle.smc_laws.proofs.SlotLaws.{slot_rule}
 use Rattle.smc_laws.proofs.Everything.{Everything, everything-kept, everything-first}
-use Rattle.smc_refine.specs.Orders.{logs_of, LogsHaveOneOrder}
+use Rattle.smc_refine.specs.Orders.{logs_of, LogsHaveOneOrder, LogsAreLawful}
 use Rattle.smc_refine.proofs.EventLaws.{allowed}
+use Rattle.smc_refine.proofs.HomeLaws.{home-reached}
+use Rattle.smc_refine.proofs.ScansKnown.{ScansKnown, scans_known-after, scans_known-first}
 use Rattle.smc_refine.proofs.OrderSteps.{adds, told_of, IsNoted, logged-told, events-adds, own-adds, others-adds, log-there, log-other, noted-after, told-going, told-starting}
 
 -- an order of the logs that replays, and all that holds of the state behind them
@@ -41,6 +43,7 @@ pub record Ordered (opening : Opening) (shape : Layout) (m : Machine) : Type 0 w
   pub order : List (ℕ × Event)
   pub one_order : OneOrder (logs_of m.locals) order
   pub replay : Replay empty_world (events_of order) state.world
+  pub scans : ScansKnown shape state (events_of order)
   pub noted : (pass : ℕ) (l : Local) → slice_get m.locals pass ≡ Some l → IsNoted l
 
 module _ (opening : Opening) (shape : Layout) (valid : IsShape shape) where
@@ -131,6 +134,15 @@ module _ (opening : Opening) (shape : Layout) (valid : IsShape shape) where
         go Go q = told-going b.order shape step.local.stand step.local.stand.section step.local.stand.phase w
         go (Start next) q = told-starting b.order shape pass step.local.stand step.local.stand.section next step.told w (λ other note same. learnt other note (q ∙ ap (λ (k : Call). Start k) same))
 
+    -- what is known of scans, with the event of the step
+    scans' : ScansKnown shape after_step (events_of (b.order ++ adds pass e))
+    scans' = subst (ScansKnown shape after_step) (sym (map-append (λ (d : ℕ × Event). d.1) b.order (adds pass e) ∙ ap (λ (es : List Event). events_of b.order ++ es) (events-adds pass e)))
+        (subst (λ (k : Stand). ScansKnown shape after_step (events_of b.order ++ told_of (stand_change shape pass k choice step.told w).event)) at
+        (subst (λ (v : Word). ScansKnown shape (state_after shape b.state pass choice step.told op v) (events_of b.order ++ told_of (stand_change shape pass (b.state.stands pass) choice step.told v).event))
+        (sym (mir.shows refl))
+        (scans_known-after opening shape valid b.state b.rule (events_of b.order) b.scans (Replay-last empty_world (events_of b.order) b.state.world b.replay)
+        (home-reached (events_of b.order) b.state.world b.replay) pass choice step.offered step.told within offers)))
+
     ordered_step : Ordered opening shape (stepped shape m pass step.local choice step.told op)
     ordered_step = record {
       state = after_step;
@@ -142,6 +154,7 @@ module _ (opening : Opening) (shape : Layout) (valid : IsShape shape) where
         told = EachAfter-join (λ (before : List (ℕ × Event)) (d : ℕ × Event). IsTold before d.1) [] b.order (adds pass e) b.one_order.told (one_told e told');
       };
       replay = replay';
+      scans = scans';
       noted = λ other x is. by_pass other pass
           (λ same. subst (λ (k : Local). IsNoted k) (some-same l' x (sym (get-set_same m.locals pass step.local l' step.here) ∙ subst (λ (r : ℕ). slice_get (slice_set m.locals pass l') r ≡ Some x) same is))
           (noted-after shape pass step.local choice step.told w (b.noted pass step.local step.here)))
@@ -183,6 +196,7 @@ module _ (opening : Opening) (shape : Layout) (valid : IsShape shape) where
     order = [];
     one_order = record { each_log = λ other. sym (fresh-log shape.passes other); told = tt };
     replay = refl;
+    scans = scans_known-first opening shape;
     noted = λ pass l is. subst IsNoted (fresh-at shape.passes pass l is) fresh-noted;
   }
 
@@ -196,4 +210,15 @@ has_order shape opening start row locals valid opens opened reached =
       order = b.order;
       one_order = b.one_order;
       replay = b.replay;
+      scans_once = b.scans.once;
+    }
+
+-- as one fact on the logs
+pub has_history : LogsAreLawful
+has_history shape opening start row locals valid opens opened reached =
+    let b = has_order shape opening start row locals valid opens opened reached in record {
+      state = b.state;
+      backs = b.backs;
+      slots = b.slots;
+      lawful = record { order = b.order; one_order = b.one_order; replay = b.replay; scans_once = b.scans_once };
     }
