@@ -14,8 +14,8 @@ use smc_tokens::Reserved;
 use smc_words::NoMemory;
 use std::alloc::Global;
 
-/// The text of a query: its tokens with one space between them, of which parentheses and brackets stand only round
-/// operands that need them. Memory is taken for the text.
+/// The text of a query: its tokens with one space between them. Parentheses and brackets stand round each operand that is
+/// itself a sum, difference, product or minus, or an `or`, `and` or `not`. Memory is taken for the text.
 pub fn print(alloc: Global, query: &Query) -> Result<String, NoMemory>
     ensures { IfOk result (λ text. string_bytes text ≡ tokens_text (query_tokens (query_tree query.now))) }
 {
