@@ -1,7 +1,7 @@
 -- The numbers and the histories of the scans of the pass that takes a step.
-use Rattle.std.proofs.Common.{◌≡◌, ◌≢◌, ℕ, ◌+◌, ◌<◌, ◌≤◌, ◌==◌, Bool, true, false, Option, Some, None, List, [], ◌∷◌, ◌++◌, inl, inr, refl, sym, ap, ◌∙◌, subst, arith}
+use Rattle.std.proofs.Common.{◌≡◌, ◌≢◌, ℕ, ◌+◌, ◌<◌, ◌≤◌, Bool, true, false, Option, Some, None, List, [], ◌∷◌, ◌++◌, inl, inr, refl, sym, ap, ◌∙◌, subst, arith}
 use Rattle.std.specs.Prelude.{◌&&◌, if◌then◌else◌}
-use Rattle.std.proofs.lemmas.Bool.Decides.{nat_tests}
+use Rattle.std.proofs.lemmas.Bool.{ne_eqb}
 use Rattle.smc_words.specs.declared.layout.TheConstants.{PASSES}
 use Rattle.smc_model.specs.declared.event.Event.{Event}
 use Rattle.smc_model.specs.declared.event.Event.TheVariants as event
@@ -10,7 +10,6 @@ use Rattle.smc_core.specs.declared.local.Scan.{Scan}
 use Rattle.smc_core.specs.Scan.{scan_of, scan_number, new_scan}
 use Rattle.smc_core.specs.Words.{same_number}
 use Rattle.smc_rules.proofs.CarryLaws.{by_pass}
-use Rattle.smc_agreement.proofs.CrossLaws.{by_true}
 use Rattle.smc_inv_scan.specs.Marks.{Marks, marks_told}
 use Rattle.smc_inv_scan.proofs.ListLaws.{begun-was, scan_of-number}
 use Rattle.smc_refine.proofs.Histories.{ScanHistory, SaysNothing, spoken, history-begin, history-end, history-other, history-visit}
@@ -28,9 +27,6 @@ numbers-apart i k j l a b e = (omega (arith, a, b, e), omega (arith, a, b, e))
 -- a pass that has begun more has given it too
 pub still_of : (i a b k : ℕ) → IsOf i a k → a ≤ b → IsOf i b k
 still_of i a b k is le = (is.0, omega (arith, is.1, le), is.2)
-
-apart-false : (k l : ℕ) → k ≢ l → (k == l) ≡ false
-apart-false k l ne = by_true (k == l) (λ t. absurd (ne (grind (arith, nat_tests, t)))) (λ f. f)
 
 module _ (pass : ℕ) (scans : List Scan) (begun : ℕ) (later : List Scan) (count : ℕ) where
   -- how many scans the pass has begun does not fall
@@ -129,8 +125,8 @@ module _ (pass : ℕ) (scans : List Scan) (begun : ℕ) (later : List Scan) (cou
                 let ne : k ≢ j = λ same. let (i, one) = numbers-apart pass pass l begun (low) (low) (sym eq ∙ (same ∙ t.0)) in omega (arith, below, one) in
                 history-other events world m k (Some (event.Begin j c)) b b ((marks_told world m (Some (event.Begin j c))).began k) ((marks_told world m (Some (event.Begin j c))).visited k)
                 (history k b old) refl (λ z. z) (another (event.Begin j c) j refl ne)
-                (λ n. ap (λ (z : Bool). if z then is_present world n else m.began k n) (apart-false k j ne))
-                (λ n. ap (λ (z : Bool). if z then false else m.visited k n) (apart-false k j ne))
+                (λ n. ap (λ (z : Bool). if z then is_present world n else m.began k n) (ne_eqb k j ne))
+                (λ n. ap (λ (z : Bool). if z then false else m.visited k n) (ne_eqb k j ne))
             | inr same ↦
                 let number : j ≡ k = ap (λ (z : Scan). z.number) same ∙ scan_of-number later k b is in
                 subst (λ (z : Scan). ScanHistory (events ++ event.Begin j c ∷ []) ((marks_told world m (Some (event.Begin j c))).began k) ((marks_told world m (Some (event.Begin j c))).visited k) k z) same
@@ -144,7 +140,7 @@ module _ (pass : ℕ) (scans : List Scan) (begun : ℕ) (later : List Scan) (cou
               (λ ne. let (old, was, coll, end) = t.1 k b is in
               history-other events world m k (Some (event.Visit j n)) old b (m.began k) ((marks_told world m (Some (event.Visit j n))).visited k)
               (history k old was) coll (λ z. sym end ∙ z) (another (event.Visit j n) j refl ne) (λ x. refl)
-              (λ x. ap (λ (z : Bool). if z && same_number x n then true else m.visited k x) (apart-false k j ne)))
+              (λ x. ap (λ (z : Bool). if z && same_number x n then true else m.visited k x) (ne_eqb k j ne)))
           go (Some (event.End j)) t = by_pass k j
               (λ same. let (old, was, coll, end) = t.1 k b is in
               subst (λ (z : ℕ). ScanHistory (events ++ event.End z ∷ []) (m.began k) (m.visited k) k b) same

@@ -1,6 +1,6 @@
 -- What the events of all passes say of the scans that go on: each step keeps it, and its event keeps the rule of scans.
-use Rattle.std.proofs.Common.{◌≡◌, ◌≢◌, ◌⊎◌, ℕ, ◌<◌, ◌≤◌, ◌==◌, Bool, true, false, Option, Some, None, List, [], ◌++◌, append-nil, inl, inr, refl, sym, ap, ◌∙◌, subst, arith}
-use Rattle.std.specs.Prelude.{Contains, nat_lt, if◌then◌else◌}
+use Rattle.std.proofs.Common.{◌≡◌, ◌≢◌, ◌⊎◌, ℕ, ◌<◌, ◌≤◌, true, false, Option, Some, None, List, [], ◌++◌, append-nil, inl, inr, refl, sym, ap, ◌∙◌, subst, arith}
+use Rattle.std.specs.Prelude.{Contains, nat_lt}
 use Rattle.std.specs.Option.{option_map_or}
 use Rattle.std.proofs.lemmas.Bool.Decides.{nat_tests}
 use Rattle.std.proofs.lemmas.List.Elements.{Contains-push_cases}
@@ -18,7 +18,6 @@ use Rattle.smc_core.specs.declared.local.Opening.{Opening}
 use Rattle.smc_core.specs.declared.local.Scan.{Scan}
 use Rattle.smc_core.specs.declared.local.Stand.{Stand}
 use Rattle.smc_core.specs.declared.op.Offer.{Offer}
-use Rattle.smc_core.specs.declared.word.Word.{Word}
 use Rattle.smc_core.specs.Scan.{scan_of, scan_number}
 use Rattle.smc_rules.specs.Memory.{seen}
 use Rattle.smc_rules.specs.Reads.{object}
@@ -26,6 +25,7 @@ use Rattle.smc_rules.specs.State.{State, first_state, stand_change, stand_offer,
 use Rattle.smc_rules.proofs.CarryLaws.{by_pass, put_stand-same, put_stand-other}
 use Rattle.smc_agreement.proofs.CrossLaws.{by_true}
 use Rattle.smc_inv_scan.specs.Marks.{Marks, MarksAgree, FitsMarks, no_marks, marks_told, put_marks}
+use Rattle.smc_inv_scan.proofs.MarkViews.{put-mine, put-other}
 use Rattle.smc_inv_scan.proofs.StepLaws.{events_fit, marks_kept, marks_begun}
 use Rattle.smc_laws.proofs.Everything.{Everything}
 use Rattle.smc_refine.proofs.Histories.{ScanHistory, SaysNothing, spoken, history-other, ends-rightly, visits-rightly}
@@ -47,25 +47,14 @@ pub record ScansKnown (shape : Layout) (s : State) (events : List Event) : Type 
   pub opens : (i : ℕ) → i < shape.passes → IsOpen (s.stands i).scans (s.stands i).phase
   pub once : ScansOnce empty_world events
 
--- the marks of a pass that were put there, and those of another one
-put-same : (marks : ℕ → Marks) (pass i : ℕ) (m : Marks) → i ≡ pass → put_marks marks pass m i ≡ m
-put-same marks pass i m e = let t : (i == pass) ≡ true = grind (arith, nat_tests, e) in ap (λ (b : Bool). if b then m else marks i) t
-
-put-other : (marks : ℕ → Marks) (pass i : ℕ) (m : Marks) → i ≢ pass → put_marks marks pass m i ≡ marks i
-put-other marks pass i m ne = by_true (i == pass) (λ t. absurd (ne (grind (arith, nat_tests, t)))) (λ f. ap (λ (b : Bool). if b then m else marks i) f)
-
 module _ (opening : Opening) (shape : Layout) (valid : IsShape shape) (s : State) (h : Everything opening shape s) (events : List Event) (known : ScansKnown shape s events)
     (at : s.world ≡ world_through empty_world events) (home : IsHome s.world)
     (pass : ℕ) (choice : Choice) (o : Offer) (told : ℕ) (within : pass < shape.passes) (offers : stand_offer shape pass (s.stands pass) choice ≡ Some o) where
-  abbrev st : Stand
-  st = s.stands pass
-
-  abbrev w : Word
-  w = seen o.op s.memory
-
+  -- what the step tells
   abbrev e : Option Event
   e = (stand_change shape pass (s.stands pass) choice told (seen o.op s.memory)).event
 
+  -- where it leaves the pass
   abbrev new : Stand
   new = stand_then shape pass (s.stands pass) choice told (seen o.op s.memory)
 
@@ -126,6 +115,7 @@ module _ (opening : Opening) (shape : Layout) (valid : IsShape shape) (s : State
   newest None x is = inl (subst (λ (l : List Event). Contains l x) (append-nil events) is)
   newest (Some y) x is = elim (Contains-push_cases events y x is) [ inl old ↦ inl old | inr same ↦ inr (ap (λ (z : Event). Some z) same) ]
 
+  -- the state after it
   abbrev after : State
   after = state_after shape s pass choice told o.op (seen o.op s.memory)
 
@@ -150,7 +140,7 @@ module _ (opening : Opening) (shape : Layout) (valid : IsShape shape) (s : State
 
   history' : (i k : ℕ) (b : Scan) → i < shape.passes → scan_of (after.stands i).scans k ≡ Some b → ScanHistory (events ++ told_of e) ((marks' i).began k) ((marks' i).visited k) k b
   history' i k b lt is = by_pass i pass
-      (λ same. subst (λ (z : Marks). ScanHistory (events ++ told_of e) (z.began k) (z.visited k) k b) (sym (put-same known.marks pass i (marks_told s.world m e) same))
+      (λ same. subst (λ (z : Marks). ScanHistory (events ++ told_of e) (z.began k) (z.visited k) k b) (sym (put-mine known.marks pass i (marks_told s.world m e) same))
       (own-history pass (s.stands pass).scans (s.stands pass).begun new.scans new.begun (λ j c. known.numbers pass j c within) (low pass within) events s.world m (λ j c. known.history pass j c within) at unspoken e viewed.told k b (subst (λ (z : Stand). scan_of z.scans k ≡ Some b) (mine i same) is)))
       (λ apart.
       let there : scan_of (s.stands i).scans k ≡ Some b = subst (λ (z : Stand). scan_of z.scans k ≡ Some b) (others i apart) is in
@@ -178,6 +168,7 @@ module _ (opening : Opening) (shape : Layout) (valid : IsShape shape) (s : State
     )
   ]
 
+  -- what is known of scans then, with the event of the step
   pub scans_known-after : ScansKnown shape after (events ++ told_of e)
   scans_known-after = record {
     marks = marks';
