@@ -8,3 +8,9 @@ pub mod ScanSteps
 pub mod EventLaws
 pub mod OrderSteps
 pub mod Ordered
+pub mod OwnLogs
+pub mod OwnSteps
+pub mod OwnAlong
+pub mod ToldKnown
+pub mod Onward
+pub mod AloneLaws

@@ -184,7 +184,7 @@ module _ (opening : Opening) (shape : Layout) (valid : IsShape shape) where
   fresh-noted : IsNoted (fresh shape)
   fresh-noted note k is = absurd (cc)
 
-  ordered-first : (start : List ℕ) → IsOpening opening → IsOpened shape opening start → Ordered opening shape (started shape start)
+  pub ordered-first : (start : List ℕ) → IsOpening opening → IsOpened shape opening start → Ordered opening shape (started shape start)
   ordered-first start opens opened = record {
     state = first_state shape opening;
     backs = record {

@@ -1,0 +1,95 @@
+-- Events of a log that are alone: by the logs and the answers, all other passes stood aside while they happened.
+use Rattle.std.specs.Prelude.{◌≡◌, ◌≢◌, ◌⊎◌, ⊤, ℕ, ◌+◌, ◌<◌, ◌≤◌, nat_le, Bool, true, false, IfSome, Some, List, [], ◌∷◌, Contains, filter, length, slice_get, take}
+use Rattle.smc_shape.specs.Layout.{Layout, IsShape}
+use Rattle.smc_model.specs.declared.event.Event.{Event}
+use Rattle.smc_model.specs.declared.event.Event.TheVariants.{Enter, Leave, Told}
+use Rattle.smc_model.specs.Order.{log_of}
+use Rattle.smc_core.specs.declared.call.Choice.{Choice}
+use Rattle.smc_core.specs.declared.done.Done.{Done}
+use Rattle.smc_core.specs.declared.done.Done.TheVariants as done
+use Rattle.smc_core.specs.declared.local.Answer.{Answer}
+use Rattle.smc_core.specs.declared.local.Local.{Local}
+use Rattle.smc_core.specs.declared.local.Opening.{Opening}
+use Rattle.smc_core.specs.declared.phase.Phase.TheVariants.{Idle}
+use Rattle.smc_core.specs.Machine.{Machine, Steps, Leads, IsOpening, IsOpened, started}
+use Rattle.smc_aside.specs.Aside.{OthersAside, IsUndisturbed}
+use Rattle.smc_refine.specs.Orders.{logs_of}
+
+-- whether an event begins a section
+abbrev pub is_enter : Event → Bool
+is_enter Enter = true
+is_enter _ = false
+
+-- whether it ends one
+abbrev pub is_leave : Event → Bool
+is_leave Leave = true
+is_leave _ = false
+
+-- each section of the log has ended: it has as many leaves as enters
+abbrev pub IsLeft : List Event → Type 0
+IsLeft log = length (filter is_leave log) ≡ length (filter is_enter log)
+
+-- whether a pass has a round after an answer: a begin gives it one, where not for nothing; a finish or a cancel ends it
+abbrev pub owns_then : Bool → Done → Bool
+owns_then owns (done.Round coll bound moves) = true
+owns_then owns (done.Nothing coll) = false
+owns_then owns (done.Finished moved abandoned gone) = false
+owns_then owns done.Cancelled = false
+owns_then owns _ = owns
+
+-- whether it has one after all of these answers
+abbrev pub owns_after : Bool → List Answer → Bool
+owns_after owns [] = owns
+owns_after owns (first ∷ later) = owns_after (owns_then owns first.done) later
+
+-- the answers that were kept while the log had at most so many events
+abbrev pub answers_until : ℕ → List Answer → List Answer
+answers_until count answers = filter (λ answer. nat_le answer.length count) answers
+
+-- the event tells of this pass's log, and at least so many events of it
+abbrev pub TellsOf : ℕ → ℕ → Event → Type 0
+TellsOf pass least (Told other count) = (other ≡ pass) × (least ≤ count)
+TellsOf pass least _ = ⊥
+
+-- another pass stands aside while the events `since` to `until` of this pass's log happen: it has left and has no round
+-- after its first `count` events; these were told to this pass before, and what comes next tells of it later
+pub record IsApart (pass since until : ℕ) (log : List Event) (other : ℕ) (l : Local) : Type 0 where
+  pub count : ℕ
+  pub left : IsLeft (take count l.log)
+  pub no_round : owns_after false (answers_until count l.answers) ≡ false
+  pub told : (count ≡ 0) ⊎ Contains (take since log) (Told other count)
+  pub next : IfSome (slice_get l.log count) (TellsOf pass until)
+
+-- the events `since` to `until` of this pass's log are alone: every other pass stands aside
+abbrev pub Alone : List Local → ℕ → ℕ → ℕ → Type 0
+Alone locals pass since until = (other : ℕ) (l : Local) → other ≢ pass → slice_get locals other ≡ Some l
+    → IsApart pass since until (log_of (logs_of locals) pass) other l
+
+-- an answer of this pass is alone: the events from its length of the log to the next one are
+abbrev pub IsAloneAnswer : List Local → ℕ → Answer → Type 0
+IsAloneAnswer locals pass answer = Alone locals pass answer.length (answer.length + 1)
+
+-- no call is in progress
+abbrev pub AllIdle : List Local → Type 0
+AllIdle locals = (pass : ℕ) (l : Local) → slice_get locals pass ≡ Some l → l.stand.phase ≡ Idle
+
+-- a moment of a list of steps from the start, at which the log has the event `since` and not yet the event `until`
+pub record IsBetween (shape : Layout) (start : List ℕ) (pass since until : ℕ) (m : Machine) (later : List (ℕ × Choice)) (last : Machine) : Type 0 where
+  pub earlier : List (ℕ × Choice)
+  pub before : Leads shape (started shape start) earlier m
+  pub after : Leads shape m later last
+  pub has_first : since ≤ length (log_of (logs_of m.locals) pass)
+  pub lacks_last : length (log_of (logs_of m.locals) pass) < until
+
+-- the next step, if there is one, is of this pass or one of those that stand aside, and leaves the others aside
+abbrev pub NextUndisturbed : Layout → ℕ → Machine → List (ℕ × Choice) → Type 0
+NextUndisturbed shape pass m [] = ⊤
+NextUndisturbed shape pass m (step ∷ later) =
+    IsUndisturbed pass (step ∷ []) × ((next : Machine) → Steps shape m step.0 step.1 next → OthersAside pass next.locals)
+
+-- at such a moment of events that are alone the others stand aside, and the next step is undisturbed
+abbrev pub AloneIsUndisturbed : Type 0
+AloneIsUndisturbed = (shape : Layout) (opening : Opening) (start : List ℕ) (pass since until : ℕ) (m last : Machine) (later : List (ℕ × Choice))
+    → IsShape shape → IsOpening opening → IsOpened shape opening start → IsBetween shape start pass since until m later last
+    → AllIdle last.locals → Alone last.locals pass since until
+    → OthersAside pass m.locals × NextUndisturbed shape pass m later
