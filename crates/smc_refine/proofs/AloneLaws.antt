@@ -2,7 +2,7 @@
 use Rattle.std.proofs.Common.{◌≡◌, ◌≢◌, ℕ, zero, suc, ◌+◌, ◌≤◌, ◌<◌, Bool, true, false, Option, Some, None, List, [], ◌∷◌, ◌++◌, length, ◌⊎◌, inl, inr, refl, sym, ap, ◌∙◌, subst, arith}
 use Rattle.std.specs.Prelude.{⊤, IfSome, Contains, replicate, slice_get, take}
 use Rattle.std.proofs.Math.Seq.{take-append_seam}
-use Rattle.std.proofs.lemmas.List.{take-append-le, take-append-drop}
+use Rattle.std.proofs.lemmas.List.{length-append, take-append-le, take-append-drop}
 use Rattle.std.proofs.lemmas.List.Elements.{Contains-append_left}
 use Rattle.std.proofs.lemmas.Option.{slice_get_within, get_or_from_slice_get, slice_get-get_or}
 use Rattle.smc_shape.specs.Layout.{Layout, IsShape}
@@ -30,7 +30,7 @@ use Rattle.smc_core.specs.Row.{row_shows}
 use Rattle.smc_rules.proofs.CarryLaws.{by_pass, get-set_same, some-same}
 use Rattle.smc_aside.specs.Aside.{IsResting, StandsAside, OthersAside, IsAsideChoice, IsUndisturbed}
 use Rattle.smc_aside.proofs.AsideLaws.{others-aside}
-use Rattle.smc_refine.specs.Alone.{AllIdle, Alone, AloneIsUndisturbed, IsApart, IsBetween, IsLeft, NextUndisturbed, TellsOf, answers_until, owns_after}
+use Rattle.smc_refine.specs.Alone.{AllIdle, Alone, AloneAnswerIsUndisturbed, AloneIsUndisturbed, IsApart, IsBetween, IsLeft, NextUndisturbed, StretchIsUndisturbed, TellsOf, answers_until, owns_after}
 use Rattle.smc_refine.specs.Orders.{logs_of}
 use Rattle.smc_refine.proofs.Onward.{Entered, Onward, entered-after, get-end, get-front, onward-after}
 use Rattle.smc_refine.proofs.Ordered.{Ordered, ordered_along, ordered-first}
@@ -335,3 +335,60 @@ pub alone-undisturbed : AloneIsUndisturbed
 alone-undisturbed shape opening start pass since until m last later valid opens opened between idle alone =
     (others shape opening start pass since until m last later valid opens opened between idle alone,
     next_ok shape opening start pass since until m last later valid opens opened between idle alone later refl)
+
+-- steps that follow steps
+Leads-join : (shape : Layout) (m between last : Machine) (earlier later : List (ℕ × Choice)) → Leads shape m earlier between → Leads shape between later last → Leads shape m (earlier ++ later) last
+Leads-join shape m between last [] later here leads = subst (λ (k : Machine). Leads shape k later last) (sym here) leads
+Leads-join shape m between last (first ∷ earlier) later here leads = (here.0, here.1, Leads-join shape here.0 between last earlier later here.2 leads)
+
+-- and so from one such moment to another
+module _ (shape : Layout) (opening : Opening) (start : List ℕ) (pass since until : ℕ) (to last : Machine) (later : List (ℕ × Choice))
+    (valid : IsShape shape) (opens : IsOpening opening) (opened : IsOpened shape opening start) (end : IsBetween shape start pass since until to later last)
+    (idle : AllIdle last.locals) (alone : Alone last.locals pass since until) where
+  stretch : (m : Machine) (during : List (ℕ × Choice)) → IsBetween shape start pass since until m during to → IsUndisturbed pass during
+  stretch m [] here = tt
+  stretch m ((by, choice) ∷ during) here =
+      let (next, step, leads) = here.after in
+      let whole : IsBetween shape start pass since until m ((by, choice) ∷ (during ++ later)) last = record {
+        earlier = here.earlier;
+        before = here.before;
+        after = (next, step, Leads-join shape next to last during later leads end.after);
+        has_first = here.has_first;
+        lacks_last = here.lacks_last;
+      } in
+      let (front, one) = log-goes-on shape pass m ((by, choice) ∷ []) next (next, step, refl) in
+      let (rest, more) = log-goes-on shape pass next during to leads in
+      let long_now : length (log_of (logs_of next.locals) pass) ≡ length (log_of (logs_of m.locals) pass) + length front = ap length one ∙ length-append (log_of (logs_of m.locals) pass) front in
+      let long_then : length (log_of (logs_of to.locals) pass) ≡ length (log_of (logs_of next.locals) pass) + length rest = ap length more ∙ length-append (log_of (logs_of next.locals) pass) rest in
+      let low : since ≤ length (log_of (logs_of m.locals) pass) = here.has_first in
+      let high : length (log_of (logs_of to.locals) pass) < until = end.lacks_last in
+      (((alone-undisturbed shape opening start pass since until m last ((by, choice) ∷ (during ++ later)) valid opens opened whole idle alone).1).0.0,
+      stretch next during (record {
+        earlier = here.earlier ++ (by, choice) ∷ [];
+        before = Leads-join shape (started shape start) m next here.earlier ((by, choice) ∷ []) here.before (next, step, refl);
+        after = leads;
+        has_first = omega (arith, long_now, low);
+        lacks_last = omega (arith, long_then, high);
+      }))
+
+  pub stretch-undisturbed : (m : Machine) (during : List (ℕ × Choice)) → IsBetween shape start pass since until m during to
+      → OthersAside pass m.locals × IsUndisturbed pass during × OthersAside pass to.locals
+  stretch-undisturbed m during here =
+      let calm : IsUndisturbed pass during = stretch m during here in
+      let aside : OthersAside pass m.locals = (alone-undisturbed shape opening start pass since until m last (during ++ later) valid opens opened (record {
+        earlier = here.earlier;
+        before = here.before;
+        after = Leads-join shape m to last during later here.after end.after;
+        has_first = here.has_first;
+        lacks_last = here.lacks_last;
+      }) idle alone).0 in
+      (aside, calm, others-aside shape pass m to during aside calm here.after)
+
+pub stretches-undisturbed : StretchIsUndisturbed
+stretches-undisturbed shape opening start pass since until m to last during later valid opens opened here end idle alone =
+    stretch-undisturbed shape opening start pass since until to last later valid opens opened end idle alone m during here
+
+pub answers-undisturbed : AloneAnswerIsUndisturbed
+answers-undisturbed shape opening start pass answer m last earlier later valid opens opened before after long idle alone =
+    alone-undisturbed shape opening start pass answer.length (answer.length + 1) m last later valid opens opened
+    (record { earlier = earlier; before = before; after = after; has_first = omega (arith, long); lacks_last = omega (arith, long) }) idle alone

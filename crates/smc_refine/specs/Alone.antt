@@ -93,3 +93,17 @@ AloneIsUndisturbed = (shape : Layout) (opening : Opening) (start : List ℕ) (pa
     → IsShape shape → IsOpening opening → IsOpened shape opening start → IsBetween shape start pass since until m later last
     → AllIdle last.locals → Alone last.locals pass since until
     → OthersAside pass m.locals × NextUndisturbed shape pass m later
+
+-- from one such moment to another all steps are undisturbed
+abbrev pub StretchIsUndisturbed : Type 0
+StretchIsUndisturbed = (shape : Layout) (opening : Opening) (start : List ℕ) (pass since until : ℕ) (m to last : Machine) (during later : List (ℕ × Choice))
+    → IsShape shape → IsOpening opening → IsOpened shape opening start → IsBetween shape start pass since until m during to
+    → IsBetween shape start pass since until to later last → AllIdle last.locals → Alone last.locals pass since until
+    → OthersAside pass m.locals × IsUndisturbed pass during × OthersAside pass to.locals
+
+-- at each moment at which the log has the length of an answer that is alone the others stand aside
+abbrev pub AloneAnswerIsUndisturbed : Type 0
+AloneAnswerIsUndisturbed = (shape : Layout) (opening : Opening) (start : List ℕ) (pass : ℕ) (answer : Answer) (m last : Machine) (earlier later : List (ℕ × Choice))
+    → IsShape shape → IsOpening opening → IsOpened shape opening start → Leads shape (started shape start) earlier m → Leads shape m later last
+    → length (log_of (logs_of m.locals) pass) ≡ answer.length → AllIdle last.locals → IsAloneAnswer last.locals pass answer
+    → OthersAside pass m.locals × NextUndisturbed shape pass m later
