@@ -14,3 +14,4 @@ pub mod OwnAlong
 pub mod ToldKnown
 pub mod Onward
 pub mod AloneLaws
+pub mod WorkedLaws

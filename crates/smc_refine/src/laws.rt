@@ -1,5 +1,6 @@
 //! Each function is a theorem over the definitions in `specs`, and does nothing.
 ghost use Rattle.smc_refine.specs.Alone.{AloneIsUndisturbed, AloneAnswerIsUndisturbed, StretchIsUndisturbed};
+ghost use Rattle.smc_refine.specs.Worked.{cancels_its_round, enters_too_soon, keeps_its_round, told_too_soon, works_between, IsAloneAfter, IsNotAloneAfter};
 ghost use Rattle.smc_refine.specs.Orders.{LogsAreLawful, LogsHaveOneOrder};
 
 /// After every list of steps the logs of all passes have one order, in which scans visit once. It replays from the empty
@@ -28,4 +29,14 @@ pub fn a_stretch_alone_is_undisturbed()
 /// Where an answer is alone, all other passes stood aside while its pass had told as many events as it has told then.
 pub fn an_answer_alone_is_undisturbed()
     ensures { AloneAnswerIsUndisturbed }
+{}
+
+/// What pass 1 does is alone where it stands between what it was told of pass 0 and what pass 0 was told of it; not where
+/// pass 0 enters before, is told of less, or has left with a round.
+pub fn worked_schedules_alone()
+    ensures works_between { IsAloneAfter works_between 1 1 3 }
+    ensures enters_too_soon { IsNotAloneAfter enters_too_soon 1 1 3 }
+    ensures told_too_soon { IsNotAloneAfter told_too_soon 1 1 3 }
+    ensures keeps_its_round { IsNotAloneAfter keeps_its_round 1 1 3 }
+    ensures cancels_its_round { IsAloneAfter cancels_its_round 1 1 3 }
 {}
