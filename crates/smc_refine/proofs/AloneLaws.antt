@@ -1,10 +1,10 @@
 -- Where events are alone, all other passes stand aside at every moment of them.
-use Rattle.std.proofs.Common.{◌≡◌, ◌≢◌, ℕ, zero, suc, ◌+◌, ◌≤◌, ◌<◌, Bool, true, false, Option, Some, None, List, [], ◌∷◌, ◌++◌, length, ◌⊎◌, inl, inr, refl, sym, ap, ◌∙◌, subst, arith}
+use Rattle.std.proofs.Common.{◌≡◌, ◌≢◌, ℕ, zero, suc, ◌+◌, ◌≤◌, ◌<◌, Bool, false, Option, Some, None, List, [], ◌∷◌, ◌++◌, length, ◌⊎◌, inl, inr, refl, sym, ap, ◌∙◌, subst, arith}
 use Rattle.std.specs.Prelude.{⊤, IfSome, Contains, replicate, slice_get, take}
 use Rattle.std.proofs.Math.Seq.{take-append_seam}
 use Rattle.std.proofs.lemmas.List.{length-append, take-append-le, take-append-drop}
 use Rattle.std.proofs.lemmas.List.Elements.{Contains-append_left}
-use Rattle.std.proofs.lemmas.Option.{slice_get_within, get_or_from_slice_get, slice_get-get_or}
+use Rattle.std.proofs.lemmas.Option.{slice_get_within, get_or_from_slice_get}
 use Rattle.smc_shape.specs.Layout.{Layout, IsShape}
 use Rattle.smc_model.specs.declared.event.Event.{Event}
 use Rattle.smc_model.specs.declared.event.Event.TheVariants as event
@@ -22,7 +22,6 @@ use Rattle.smc_core.specs.declared.phase.Phase.{Phase}
 use Rattle.smc_core.specs.declared.phase.Phase.TheVariants as phase
 use Rattle.smc_core.specs.declared.section.Section.{Section}
 use Rattle.smc_core.specs.declared.section.Section.TheVariants.{Outside, Loaded, Announced, Again, Lasting, Inside}
-use Rattle.smc_core.specs.declared.word.Word.{Word}
 use Rattle.smc_core.specs.Local.{fresh, after}
 use Rattle.smc_core.specs.Machine.{Machine, Steps, Leads, IsOpening, IsOpened, started, local_offer}
 use Rattle.smc_core.specs.Offer.{offer}
@@ -332,9 +331,10 @@ module _ (shape : Layout) (opening : Opening) (start : List ℕ) (pass since unt
 
 -- at each moment of events that are alone
 pub alone-undisturbed : AloneIsUndisturbed
-alone-undisturbed shape opening start pass since until m last later valid opens opened between idle alone =
-    (others shape opening start pass since until m last later valid opens opened between idle alone,
-    next_ok shape opening start pass since until m last later valid opens opened between idle alone later refl)
+alone-undisturbed shape opening start pass since until m last later valid opens opened between idle alone = (
+  others shape opening start pass since until m last later valid opens opened between idle alone,
+  next_ok shape opening start pass since until m last later valid opens opened between idle alone later refl,
+)
 
 -- steps that follow steps
 Leads-join : (shape : Layout) (m between last : Machine) (earlier later : List (ℕ × Choice)) → Leads shape m earlier between → Leads shape between later last → Leads shape m (earlier ++ later) last
@@ -361,15 +361,16 @@ module _ (shape : Layout) (opening : Opening) (start : List ℕ) (pass since unt
       let long_now : length (log_of (logs_of next.locals) pass) ≡ length (log_of (logs_of m.locals) pass) + length front = ap length one ∙ length-append (log_of (logs_of m.locals) pass) front in
       let long_then : length (log_of (logs_of to.locals) pass) ≡ length (log_of (logs_of next.locals) pass) + length rest = ap length more ∙ length-append (log_of (logs_of next.locals) pass) rest in
       let low : since ≤ length (log_of (logs_of m.locals) pass) = here.has_first in
-      let high : length (log_of (logs_of to.locals) pass) < until = end.lacks_last in
-      (((alone-undisturbed shape opening start pass since until m last ((by, choice) ∷ (during ++ later)) valid opens opened whole idle alone).1).0.0,
-      stretch next during (record {
-        earlier = here.earlier ++ (by, choice) ∷ [];
-        before = Leads-join shape (started shape start) m next here.earlier ((by, choice) ∷ []) here.before (next, step, refl);
-        after = leads;
-        has_first = omega (arith, long_now, low);
-        lacks_last = omega (arith, long_then, high);
-      }))
+      let high : length (log_of (logs_of to.locals) pass) < until = end.lacks_last in (
+        ((alone-undisturbed shape opening start pass since until m last ((by, choice) ∷ (during ++ later)) valid opens opened whole idle alone).1).0.0,
+        stretch next during (record {
+          earlier = here.earlier ++ (by, choice) ∷ [];
+          before = Leads-join shape (started shape start) m next here.earlier ((by, choice) ∷ []) here.before (next, step, refl);
+          after = leads;
+          has_first = omega (arith, long_now, low);
+          lacks_last = omega (arith, long_then, high);
+        }),
+      )
 
   pub stretch-undisturbed : (m : Machine) (during : List (ℕ × Choice)) → IsBetween shape start pass since until m during to
       → OthersAside pass m.locals × IsUndisturbed pass during × OthersAside pass to.locals

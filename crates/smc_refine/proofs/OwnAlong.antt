@@ -1,13 +1,11 @@
 -- What a pass's log and answers tell of it holds after every list of steps; how its log and answers go on from a moment.
-use Rattle.std.proofs.Common.{◌≡◌, ◌≢◌, ℕ, zero, suc, ◌+◌, ◌≤◌, ◌<◌, nat_le, Bool, true, false, Option, Some, None, List, [], ◌∷◌, ◌++◌, length, append-nil, ◌⊎◌, inl, inr, refl, sym, ap, ◌∙◌, subst, arith}
-use Rattle.std.specs.Prelude.{⊤, filter, slice_get, slice_set, replicate, if◌then◌else◌}
-use Rattle.std.proofs.lemmas.Bool.Decides.{nat_tests, leb_tells}
+use Rattle.std.proofs.Common.{◌≡◌, ℕ, ◌+◌, ◌≤◌, ◌<◌, nat_le, Bool, true, false, Option, Some, None, List, [], ◌∷◌, ◌++◌, length, append-nil, refl, sym, ap, ◌∙◌, subst, arith}
+use Rattle.std.specs.Prelude.{⊤, filter, slice_get, slice_set, if◌then◌else◌}
+use Rattle.std.proofs.lemmas.Bool.Decides.{nat_tests}
 use Rattle.std.proofs.lemmas.List.{length-append}
 use Rattle.std.proofs.lemmas.List.Elements.{filter-append}
 use Rattle.smc_shape.specs.Layout.{Layout}
 use Rattle.smc_model.specs.declared.event.Event.{Event}
-use Rattle.smc_model.specs.declared.event.Event.TheVariants as event
-use Rattle.smc_model.specs.Order.{log_of}
 use Rattle.smc_core.specs.declared.call.Choice.{Choice}
 use Rattle.smc_core.specs.declared.change.Change.{Change}
 use Rattle.smc_core.specs.declared.done.Done.{Done}
@@ -16,13 +14,12 @@ use Rattle.smc_core.specs.declared.local.Local.{Local}
 use Rattle.smc_core.specs.declared.op.Offer.{Offer}
 use Rattle.smc_core.specs.declared.word.Word.{Word}
 use Rattle.smc_core.specs.Change.{change}
-use Rattle.smc_core.specs.Local.{fresh, after, answered, logged}
-use Rattle.smc_core.specs.Machine.{Machine, Steps, Leads, local_offer}
+use Rattle.smc_core.specs.Local.{after, answered, logged}
+use Rattle.smc_core.specs.Machine.{Machine, Leads, local_offer}
 use Rattle.smc_core.specs.Row.{row_shows}
 use Rattle.smc_rules.proofs.CarryLaws.{by_pass, get-set_same, get-set_other, some-same}
-use Rattle.smc_refine.specs.Orders.{logs_of}
 use Rattle.smc_refine.specs.Alone.{is_enter, is_leave, owns_then, owns_after, answers_until}
-use Rattle.smc_refine.proofs.OrderSteps.{told_of, logged-told, log-there, log-other}
+use Rattle.smc_refine.proofs.OrderSteps.{told_of, logged-told}
 use Rattle.smc_refine.proofs.OwnLogs.{owns_told}
 use Rattle.smc_refine.proofs.OwnSteps.{enters, leaves, Tied, Follows, is_inside, is_some, owns_at, follows}
 

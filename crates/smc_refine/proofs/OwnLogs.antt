@@ -1,33 +1,21 @@
 -- What a pass's log and kept answers tell of where it stands: whether it is in a section, and whether it has a round.
-use Rattle.std.proofs.Common.{◌≡◌, ℕ, ◌+◌, ◌≤◌, ◌==◌, nat_lt, not, Bool, true, false, ◌&&◌, ◌||◌, Option, Some, None, List, [], ◌∷◌, ◌++◌, length, refl, sym, ap, ◌∙◌, subst, arith}
-use Rattle.std.specs.Prelude.{⊤, IsTrue, filter, if◌then◌else◌}
-use Rattle.std.proofs.lemmas.Bool.Decides.{nat_tests}
+use Rattle.std.proofs.Common.{◌≡◌, ℕ, ◌+◌, ◌==◌, not, Bool, true, false, ◌&&◌, ◌||◌, Option, Some, None, List, refl, arith}
+use Rattle.std.specs.Prelude.{if◌then◌else◌}
 use Rattle.smc_words.specs.declared.dir.Dir.{Dir}
 use Rattle.smc_words.specs.declared.number.Number.{Number}
-use Rattle.smc_words.specs.declared.round.RoundWord.{RoundWord}
 use Rattle.smc_shape.specs.Layout.{Layout}
 use Rattle.smc_model.specs.declared.event.Event.{Event}
 use Rattle.smc_model.specs.declared.event.Event.TheVariants as event
-use Rattle.smc_core.specs.declared.call.Call.{Call}
-use Rattle.smc_core.specs.declared.call.Call.TheVariants as call
-use Rattle.smc_core.specs.declared.call.Choice.{Choice}
-use Rattle.smc_core.specs.declared.call.Choice.TheVariants.{Start, Go}
 use Rattle.smc_core.specs.declared.change.Change.{Change}
 use Rattle.smc_core.specs.declared.done.Done.{Done}
 use Rattle.smc_core.specs.declared.done.Done.TheVariants as done
 use Rattle.smc_core.specs.declared.local.Owned.{Owned}
 use Rattle.smc_core.specs.declared.local.Scan.{Scan}
-use Rattle.smc_core.specs.declared.local.Stand.{Stand}
-use Rattle.smc_core.specs.declared.op.Offer.{Offer}
 use Rattle.smc_core.specs.declared.phase.Phase.{Phase}
 use Rattle.smc_core.specs.declared.phase.Phase.TheVariants as phase
 use Rattle.smc_core.specs.declared.phase.moves.BeginPhase.{BeginPhase}
 use Rattle.smc_core.specs.declared.phase.moves.BeginPhase.TheVariants as begin
-use Rattle.smc_core.specs.declared.phase.moves.CancelPhase.{CancelPhase}
-use Rattle.smc_core.specs.declared.phase.moves.CancelPhase.TheVariants as cancel
 use Rattle.smc_core.specs.declared.phase.moves.Counting.{Counting}
-use Rattle.smc_core.specs.declared.phase.moves.FinishPhase.{FinishPhase}
-use Rattle.smc_core.specs.declared.phase.moves.FinishPhase.TheVariants as finish
 use Rattle.smc_core.specs.declared.phase.moves.Walk.{Walk}
 use Rattle.smc_core.specs.declared.phase.objects.AddPhase.{AddPhase}
 use Rattle.smc_core.specs.declared.phase.objects.AddPhase.TheVariants as add
@@ -37,28 +25,19 @@ use Rattle.smc_core.specs.declared.phase.objects.RemovePhase.{RemovePhase}
 use Rattle.smc_core.specs.declared.phase.objects.ScanPhase.{ScanPhase}
 use Rattle.smc_core.specs.declared.phase.objects.ScanPhase.TheVariants as scan
 use Rattle.smc_core.specs.declared.phase.objects.Seeker.{Seeker}
-use Rattle.smc_core.specs.declared.section.Section.{Section}
-use Rattle.smc_core.specs.declared.section.Section.TheVariants.{Outside, Loaded, Announced, Again, Lasting, Inside}
 use Rattle.smc_core.specs.declared.section.TheConstants.{LAST_EPOCH}
 use Rattle.smc_core.specs.declared.word.State.{State}
 use Rattle.smc_core.specs.declared.word.Word.{Word}
 use Rattle.smc_core.specs.Add.{add_change, slot_seen, entry_seen}
-use Rattle.smc_core.specs.Begin.{begin_change, begin_counting, past_target, round_seen, to_source, to_target}
-use Rattle.smc_core.specs.Cancel.{cancel_change}
-use Rattle.smc_core.specs.Change.{change, go_change, start_change, advance_next, section_seen, ready_seen, remove_started, next_started, finish_owned, cancel_owned, look_started}
+use Rattle.smc_core.specs.Begin.{begin_change, begin_counting, past_target, to_source, to_target}
+use Rattle.smc_core.specs.Change.{advance_next, section_seen, ready_seen, remove_started, next_started, finish_owned, cancel_owned, look_started}
 use Rattle.smc_core.specs.Count.{counting, survey_change}
-use Rattle.smc_core.specs.Finish.{finish_change, finish_started}
-use Rattle.smc_core.specs.Local.{section_after, round_after}
 use Rattle.smc_core.specs.Look.{look_change, looking_change, look_finding, seeker_of, sought_number, passes}
-use Rattle.smc_core.specs.Offer.{offer, held_slot}
 use Rattle.smc_core.specs.Remove.{remove_change}
-use Rattle.smc_core.specs.Scan.{scan_change, scan_of, is_over, is_scanned}
-use Rattle.smc_core.specs.Section.{epoch_of, is_calm}
+use Rattle.smc_core.specs.Scan.{scan_change, is_over, is_scanned}
 use Rattle.smc_core.specs.Step.{goes, ends, tells}
-use Rattle.smc_core.specs.Words.{plain_of, dir_of, round_of, state_of}
-use Rattle.smc_aside.specs.Aside.{IsResting}
+use Rattle.smc_core.specs.Words.{plain_of, dir_of, state_of}
 use Rattle.smc_refine.specs.Alone.{is_enter, is_leave, owns_then}
-use Rattle.smc_refine.proofs.OrderSteps.{told_of}
 
 -- whether an event begins or ends a section
 abbrev pub is_mark : Option Event → Bool

@@ -1,22 +1,15 @@
 -- Each step of a pass keeps what its log and answers tell of where it stands.
-use Rattle.std.proofs.Common.{◌≡◌, ℕ, ◌+◌, ◌≤◌, ◌<◌, ◌==◌, nat_le, not, Bool, true, false, ◌&&◌, ◌||◌, Option, Some, None, List, [], ◌∷◌, ◌++◌, length, ◌⊎◌, inl, inr, refl, sym, ap, ◌∙◌, subst, arith}
-use Rattle.std.specs.Prelude.{⊤, filter, if◌then◌else◌}
-use Rattle.std.proofs.lemmas.Bool.Decides.{nat_tests}
-use Rattle.std.proofs.lemmas.List.{length-append}
-use Rattle.std.proofs.lemmas.List.Elements.{filter-append}
+use Rattle.std.proofs.Common.{◌≡◌, ℕ, ◌+◌, not, Bool, true, false, ◌&&◌, ◌||◌, Option, Some, None, List, [], ◌∷◌, length, refl, sym, ◌∙◌, subst, arith}
+use Rattle.std.specs.Prelude.{filter, if◌then◌else◌}
 use Rattle.smc_words.specs.declared.round.RoundWord.{RoundWord}
 use Rattle.smc_shape.specs.Layout.{Layout}
 use Rattle.smc_model.specs.declared.event.Event.{Event}
-use Rattle.smc_model.specs.declared.event.Event.TheVariants as event
 use Rattle.smc_core.specs.declared.call.Call.{Call}
 use Rattle.smc_core.specs.declared.call.Call.TheVariants as call
 use Rattle.smc_core.specs.declared.call.Choice.{Choice}
 use Rattle.smc_core.specs.declared.call.Choice.TheVariants.{Start, Go}
 use Rattle.smc_core.specs.declared.change.Change.{Change}
 use Rattle.smc_core.specs.declared.done.Done.{Done}
-use Rattle.smc_core.specs.declared.done.Done.TheVariants as done
-use Rattle.smc_core.specs.declared.local.Answer.{Answer}
-use Rattle.smc_core.specs.declared.local.Local.{Local}
 use Rattle.smc_core.specs.declared.local.Owned.{Owned}
 use Rattle.smc_core.specs.declared.local.Stand.{Stand}
 use Rattle.smc_core.specs.declared.op.Offer.{Offer}
@@ -33,16 +26,14 @@ use Rattle.smc_core.specs.declared.word.Word.{Word}
 use Rattle.smc_core.specs.Begin.{round_seen}
 use Rattle.smc_core.specs.Change.{change}
 use Rattle.smc_core.specs.Count.{counting, no_count}
-use Rattle.smc_core.specs.Local.{after, answered, logged, section_after, round_after, round_begun}
-use Rattle.smc_core.specs.Machine.{local_offer}
+use Rattle.smc_core.specs.Local.{section_after, round_after, round_begun}
 use Rattle.smc_core.specs.Offer.{offer, held_slot}
 use Rattle.smc_core.specs.Scan.{scan_of}
-use Rattle.smc_core.specs.Section.{epoch_of, is_calm}
 use Rattle.smc_core.specs.Words.{plain_of, dir_of, round_of, state_of}
 use Rattle.smc_aside.specs.Aside.{IsResting}
-use Rattle.smc_refine.specs.Alone.{is_enter, is_leave, owns_then, owns_after, answers_until}
-use Rattle.smc_refine.proofs.OrderSteps.{told_of, logged-told}
-use Rattle.smc_refine.proofs.OwnLogs.{is_mark, owns_told, is_keeping, is_inner, is_beginning, is_plain, Plain, begins, is_nothing, tells_nothing, Begins, is_resting, Rests, looking-plain, look_started-plain, slot_seen-plain, add-plain, remove-plain, remove_started-plain, scan-plain, next_started-plain, survey-plain, finish_owned-plain, cancel_owned-plain, begin-begins, advancing-rests, advance_started-rests, ready-rests}
+use Rattle.smc_refine.specs.Alone.{is_enter, is_leave, owns_then}
+use Rattle.smc_refine.proofs.OrderSteps.{told_of}
+use Rattle.smc_refine.proofs.OwnLogs.{is_mark, owns_told, is_keeping, is_inner, is_beginning, Plain, begins, is_nothing, tells_nothing, Begins, is_resting, Rests, looking-plain, look_started-plain, slot_seen-plain, add-plain, remove-plain, remove_started-plain, scan-plain, next_started-plain, survey-plain, finish_owned-plain, cancel_owned-plain, begin-begins, advancing-rests, advance_started-rests, ready-rests}
 
 -- the events that begin and that end a section, after a step that tells this
 abbrev pub enters : List Event → ℕ

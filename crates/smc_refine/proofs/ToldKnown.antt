@@ -1,6 +1,6 @@
 -- What was told of a log is known of it: a told length is one that the log has come to.
-use Rattle.std.proofs.Common.{◌≡◌, ◌≢◌, ℕ, zero, suc, ◌+◌, ◌≤◌, ◌<◌, Option, Some, None, List, [], ◌∷◌, ◌++◌, length, append-nil, append_assoc, refl, sym, ap, ◌∙◌, subst, arith}
-use Rattle.std.specs.Prelude.{Contains, slice_get, slice_set}
+use Rattle.std.proofs.Common.{◌≡◌, ℕ, zero, suc, ◌+◌, ◌≤◌, Option, List, [], ◌∷◌, ◌++◌, length, append-nil, append_assoc, sym, ap, ◌∙◌, subst, arith}
+use Rattle.std.specs.Prelude.{Contains, slice_set}
 use Rattle.std.proofs.lemmas.List.{length-append}
 use Rattle.smc_shape.specs.Layout.{Layout}
 use Rattle.smc_model.specs.declared.event.Event.{Event}
@@ -12,7 +12,7 @@ use Rattle.smc_core.specs.declared.call.Choice.{Choice}
 use Rattle.smc_core.specs.declared.local.Local.{Local}
 use Rattle.smc_core.specs.Change.{change}
 use Rattle.smc_core.specs.Local.{after}
-use Rattle.smc_core.specs.Machine.{Machine, Steps, Leads}
+use Rattle.smc_core.specs.Machine.{Machine, Leads}
 use Rattle.smc_core.specs.Row.{row_shows}
 use Rattle.smc_rules.proofs.CarryLaws.{by_pass, get-set_same}
 use Rattle.smc_refine.specs.Orders.{logs_of}
@@ -65,7 +65,10 @@ log-goes-on shape pass m (step ∷ later) last (next, taken, leads) =
 
     once : (front : List Event) × (log_of (logs_of next.locals) pass ≡ log_of (logs_of m.locals) pass ++ front)
     once = by_pass pass step.0
-        (λ same. (told_of e, at_next ∙ subst (λ (k : ℕ). log_of (logs_of (slice_set m.locals step.0 l')) k ≡ log_of (logs_of m.locals) k ++ told_of e) (sym same)
-        (log-there (slice_set m.locals step.0 l') step.0 l' (get-set_same m.locals step.0 taken.local l' taken.here)
-        ∙ (logged-told taken.local.log e ∙ ap (λ (es : List Event). es ++ told_of e) (sym (log-there m.locals step.0 taken.local taken.here))))))
+        (λ same. (
+          told_of e,
+          at_next ∙ subst (λ (k : ℕ). log_of (logs_of (slice_set m.locals step.0 l')) k ≡ log_of (logs_of m.locals) k ++ told_of e) (sym same)
+              (log-there (slice_set m.locals step.0 l') step.0 l' (get-set_same m.locals step.0 taken.local l' taken.here)
+              ∙ (logged-told taken.local.log e ∙ ap (λ (es : List Event). es ++ told_of e) (sym (log-there m.locals step.0 taken.local taken.here)))),
+        ))
         (λ apart. ([], at_next ∙ (log-other m.locals step.0 pass l' apart ∙ sym (append-nil (log_of (logs_of m.locals) pass)))))

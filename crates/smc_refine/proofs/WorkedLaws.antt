@@ -1,5 +1,5 @@
 -- Worked schedules after which events are alone, or are not, computed.
-use Rattle.std.proofs.Common.{◌≡◌, ◌≢◌, ℕ, zero, suc, ◌≤◌, Bool, true, false, Option, Some, None, List, [], ◌∷◌, map, ◌⊎◌, inl, inr, refl, sym, ap, ◌∙◌, subst, arith}
+use Rattle.std.proofs.Common.{◌≡◌, ℕ, zero, suc, ◌≤◌, true, false, Option, Some, None, List, [], ◌∷◌, map, ◌⊎◌, inl, inr, refl, sym, ap, ◌∙◌, subst, arith}
 use Rattle.std.specs.Prelude.{IfSome, IsSomeAnd, Contains, option_map, slice_get, take}
 use Rattle.smc_shape.specs.Places.{at}
 use Rattle.smc_model.specs.declared.event.Event.{Event}
@@ -45,16 +45,18 @@ told_too_soon-kept : kept_in (played told_too_soon) ≡ Some (
 unfolding at played
 told_too_soon-kept = refl
 
-keeps_its_round-kept : kept_in (played keeps_its_round) ≡ Some (
-    (Enter ∷ Add (object 1 0) 0 (1 ∷ []) ∷ Add (object 1 64) 0 (2 ∷ []) ∷ Leave ∷ Told 1 3 ∷ [],
-    kept 1 (At 5) ∷ kept 2 (Made 0) ∷ kept 3 (Made 64) ∷ kept 3 (Round 0 6 1) ∷ kept 3 (Early 5 6) ∷ kept 4 Out ∷ kept 4 (Noted 0) ∷ kept 5 Learned ∷ [])
+keeps_its_round-kept : kept_in (played keeps_its_round) ≡ Some ((
+  Enter ∷ Add (object 1 0) 0 (1 ∷ []) ∷ Add (object 1 64) 0 (2 ∷ []) ∷ Leave ∷ Told 1 3 ∷ [],
+  kept 1 (At 5) ∷ kept 2 (Made 0) ∷ kept 3 (Made 64) ∷ kept 3 (Round 0 6 1) ∷ kept 3 (Early 5 6) ∷ kept 4 Out ∷ kept 4 (Noted 0) ∷ kept 5 Learned ∷ [],
+)
     ∷ (Told 0 4 ∷ Enter ∷ Leave ∷ [], kept 1 Learned ∷ kept 2 (At 5) ∷ kept 3 Out ∷ kept 3 (Noted 0) ∷ []) ∷ [])
 unfolding at played
 keeps_its_round-kept = refl
 
-cancels_its_round-kept : kept_in (played cancels_its_round) ≡ Some (
-    (Enter ∷ Add (object 1 0) 0 (1 ∷ []) ∷ Add (object 1 64) 0 (2 ∷ []) ∷ Leave ∷ Told 1 3 ∷ [],
-    kept 1 (At 5) ∷ kept 2 (Made 0) ∷ kept 3 (Made 64) ∷ kept 3 (Round 0 6 1) ∷ kept 3 Cancelled ∷ kept 4 Out ∷ kept 4 (Noted 0) ∷ kept 5 Learned ∷ [])
+cancels_its_round-kept : kept_in (played cancels_its_round) ≡ Some ((
+  Enter ∷ Add (object 1 0) 0 (1 ∷ []) ∷ Add (object 1 64) 0 (2 ∷ []) ∷ Leave ∷ Told 1 3 ∷ [],
+  kept 1 (At 5) ∷ kept 2 (Made 0) ∷ kept 3 (Made 64) ∷ kept 3 (Round 0 6 1) ∷ kept 3 Cancelled ∷ kept 4 Out ∷ kept 4 (Noted 0) ∷ kept 5 Learned ∷ [],
+)
     ∷ (Told 0 4 ∷ Enter ∷ Leave ∷ [], kept 1 Learned ∷ kept 2 (At 5) ∷ kept 3 Out ∷ kept 3 (Noted 0) ∷ []) ∷ [])
 unfolding at played
 cancels_its_round-kept = refl
@@ -128,7 +130,6 @@ pub cancels_its_round-alone : IsAloneAfter cancels_its_round 1 1 3
 cancels_its_round-alone = alone-kept 1 3 _ _ _ _
     (apart-kept 1 3 4 (Enter ∷ Add (object 1 0) 0 (1 ∷ []) ∷ Add (object 1 64) 0 (2 ∷ []) ∷ Leave ∷ Told 1 3 ∷ []) (Told 0 4 ∷ Enter ∷ Leave ∷ []) _ refl refl (0, omega arith, refl) (refl, omega arith))
     (played cancels_its_round) cancels_its_round-kept
-
 
 -- told of it once, the pass is apart there, or has nothing in its log but what tells of this one
 apart-told : (since until most : ℕ) (later log : List Event) (answers : List Answer)

@@ -29,7 +29,7 @@ is_leave _ = false
 abbrev pub IsLeft : List Event → Type 0
 IsLeft log = length (filter is_leave log) ≡ length (filter is_enter log)
 
--- whether a pass has a round after an answer: a begin gives it one, where not for nothing; a finish or a cancel ends it
+-- whether a pass has a round after an answer: it has one that was begun, until it has finished or cancelled it
 abbrev pub owns_then : Bool → Done → Bool
 owns_then owns (done.Round coll bound moves) = true
 owns_then owns (done.Nothing coll) = false
@@ -51,21 +51,25 @@ abbrev pub TellsOf : ℕ → ℕ → Event → Type 0
 TellsOf pass least (Told other count) = (other ≡ pass) × (least ≤ count)
 TellsOf pass least _ = ⊥
 
--- another pass stands aside while the events `since` to `until` of this pass's log happen: it has left and has no round
--- after its first `count` events; these were told to this pass before, and what comes next tells of it later
+-- what tells that another pass stands aside from the event `since` of this pass's log to the event `until`
 pub record IsApart (pass since until : ℕ) (log : List Event) (other : ℕ) (l : Local) : Type 0 where
+  -- it has done so many events by then
   pub count : ℕ
+  -- with these its sections have ended
   pub left : IsLeft (take count l.log)
+  -- its answers by then leave it without a round
   pub no_round : owns_after false (answers_until count l.answers) ≡ false
+  -- this pass was told of these events, if there are any, before
   pub told : (count ≡ 0) ⊎ Contains (take since log) (Told other count)
+  -- its next event, if there is one, is that it is told of this pass, and not of less than `until`
   pub next : IfSome (slice_get l.log count) (TellsOf pass until)
 
--- the events `since` to `until` of this pass's log are alone: every other pass stands aside
+-- the events `since` to `until` of this pass's log, counted from 1, are alone: every other pass stands aside meanwhile
 abbrev pub Alone : List Local → ℕ → ℕ → ℕ → Type 0
 Alone locals pass since until = (other : ℕ) (l : Local) → other ≢ pass → slice_get locals other ≡ Some l
     → IsApart pass since until (log_of (logs_of locals) pass) other l
 
--- an answer of this pass is alone: the events from its length of the log to the next one are
+-- an answer of this pass is alone: so is what happens while the log has the length that is kept with the answer
 abbrev pub IsAloneAnswer : List Local → ℕ → Answer → Type 0
 IsAloneAnswer locals pass answer = Alone locals pass answer.length (answer.length + 1)
 
@@ -73,7 +77,7 @@ IsAloneAnswer locals pass answer = Alone locals pass answer.length (answer.lengt
 abbrev pub AllIdle : List Local → Type 0
 AllIdle locals = (pass : ℕ) (l : Local) → slice_get locals pass ≡ Some l → l.stand.phase ≡ Idle
 
--- a moment of a list of steps from the start, at which the log has the event `since` and not yet the event `until`
+-- a moment of a list of steps from the start to the last machine: this pass's log has its event `since` and lacks `until`
 pub record IsBetween (shape : Layout) (start : List ℕ) (pass since until : ℕ) (m : Machine) (later : List (ℕ × Choice)) (last : Machine) : Type 0 where
   pub earlier : List (ℕ × Choice)
   pub before : Leads shape (started shape start) earlier m
@@ -81,7 +85,7 @@ pub record IsBetween (shape : Layout) (start : List ℕ) (pass since until : ℕ
   pub has_first : since ≤ length (log_of (logs_of m.locals) pass)
   pub lacks_last : length (log_of (logs_of m.locals) pass) < until
 
--- the next step, if there is one, is of this pass or one of those that stand aside, and leaves the others aside
+-- the next step, if there is one, is of this pass or of one that stands aside; the others stand aside after it too
 abbrev pub NextUndisturbed : Layout → ℕ → Machine → List (ℕ × Choice) → Type 0
 NextUndisturbed shape pass m [] = ⊤
 NextUndisturbed shape pass m (step ∷ later) =
