@@ -1,17 +1,21 @@
 -- What counts come to in every state that lists of steps lead to.
-use Rattle.std.proofs.Common.{◌≡◌, ℕ, ◌%◌, length, ap, arith}
+use Rattle.std.proofs.Common.{◌≡◌, ℕ, ◌%◌, length, refl, ap, ◌∙◌, subst, arith}
 use Rattle.std.proofs.lemmas.List.{get_or_past}
 use Rattle.smc_shape.specs.Layout.{Layout, Collection, IsShape, no_coll, slots_of}
 use Rattle.smc_shape.specs.declared.coll.TheConstants.{BLOCK_SLOTS}
 use Rattle.smc_core.specs.declared.local.Opening.{Opening}
+use Rattle.smc_core.specs.declared.phase.moves.CountPhase.TheVariants as walk
+use Rattle.smc_core.specs.declared.phase.moves.Counting.TheVariants.{Walks, Counted}
+use Rattle.smc_core.specs.Count.{no_count}
 use Rattle.smc_rules.specs.State.{State}
 use Rattle.smc_laws.specs.Laws.{HoldsAlways}
 use Rattle.smc_census.specs.Census.{is_home, blocks_of}
 use Rattle.smc_census.specs.Counts.{any_in_block}
-use Rattle.smc_census.specs.Laws.{HomesAreObjects, BlocksAreEnough}
-use Rattle.smc_census.proofs.BlockLaws.{blocks-hold, whole-blocks}
+use Rattle.smc_census.specs.Laws.{HomesAreObjects, BlocksAreEnough, WalksCountAll}
+use Rattle.smc_census.proofs.BlockLaws.{blocks-hold, blocks-need, whole-blocks}
 use Rattle.smc_census.proofs.CountLaws.{by_order, count_below-le}
-use Rattle.smc_census.proofs.HomeCounts.{homes-objects}
+use Rattle.smc_census.proofs.HomeCounts.{homes-objects, homes-valid}
+use Rattle.smc_census.proofs.WalkSteps.{CountsIn, counts-first, counts-after}
 use Rattle.smc_census.proofs.MadeWorlds.{EverythingMade, everything_made-reached, made-home}
 
 -- what follows of a state for every shape holds always
@@ -37,6 +41,15 @@ blocks_enough opening shape s valid h = record {
     whole-blocks (is_home s.memory coll) (slots_of shape coll) (slots-whole shape coll valid),
     blocks-hold (is_home s.memory coll) (blocks_of shape coll),
   );
+  needed = λ coll. omega (arith, homes_objects opening shape s h coll, whole-blocks (is_home s.memory coll) (slots_of shape coll) (slots-whole shape coll valid),
+      blocks-need (is_home s.memory coll) (blocks_of shape coll));
   slots = λ coll. omega (arith, homes_objects opening shape s h coll, count_below-le (is_home s.memory coll) (slots_of shape coll));
   blocks = λ coll. count_below-le (any_in_block (is_home s.memory coll)) (blocks_of shape coll);
 }
+
+pub walks_count : (opening : Opening) (shape : Layout) (s : State) → IsShape shape → EverythingMade opening shape s → WalksCountAll shape opening s
+walks_count opening shape s valid h coll steps count is_coll none ends =
+    let c = counts-after shape s.memory coll steps (Walks (walk.Directory coll 0 no_count)) (slots-whole shape coll valid)
+        (homes-valid opening shape s h.rule coll (λ slot lt has. none slot)) (refl, counts-first shape s.memory coll (valid.coll coll is_coll).some_slots) in
+    let all : CountsIn shape s.memory coll (Counted coll count) = subst (CountsIn shape s.memory coll) ends c in
+    (all.1 ∙ homes_objects opening shape s h coll, all.2)

@@ -2,6 +2,8 @@
 use Rattle.std.proofs.Common.{◌≡◌, ℕ, ◌<◌, true, false, Option, Some, None, refl, sym, ap, ◌∙◌, subst, arith}
 use Rattle.std.specs.Option.{option_map_or}
 use Rattle.std.proofs.lemmas.Bool.Decides.{nat_tests}
+use Rattle.smc_words.specs.declared.dir.Dir.{Dir}
+use Rattle.smc_words.specs.declared.dir.Dir.TheVariants as dir
 use Rattle.smc_words.specs.declared.number.Number.{Number}
 use Rattle.smc_words.specs.Number.{number_cmp}
 use Rattle.smc_words.proofs.NumberLaws.{numbers_total, exact_numbers}
@@ -13,17 +15,20 @@ use Rattle.smc_core.specs.declared.local.Opening.{Opening}
 use Rattle.smc_core.specs.declared.word.State as E
 use Rattle.smc_core.specs.declared.word.State.TheVariants as state
 use Rattle.smc_core.specs.Words.{has_object, has_object_at}
-use Rattle.smc_rules.specs.Reads.{state_for, back_in}
+use Rattle.smc_rules.specs.Reads.{dir_in, round_in, state_for, back_in, IsIncoming}
 use Rattle.smc_rules.specs.State.{State}
 use Rattle.smc_rules.proofs.CarryLaws.{some-same}
 use Rattle.smc_inv_range.specs.Ranges.{InState}
 use Rattle.smc_inv_range.proofs.Memories as ranges
-use Rattle.smc_agreement.proofs.Whole.{objects, shut}
+use Rattle.smc_agreement.specs.Entries.{IsPlaced, IsRoundOf}
+use Rattle.smc_agreement.specs.Parts.{Owns, moving_to}
+use Rattle.smc_agreement.proofs.Whole.{moves, objects, shut}
 use Rattle.smc_laws.proofs.Everything.{Everything}
 use Rattle.smc_laws.proofs.SlotLaws.{present-at, present-stands}
 use Rattle.smc_refine.proofs.HomeLaws.{IsHome}
 use Rattle.smc_census.specs.Census.{owner_is_at, is_home, homes}
 use Rattle.smc_census.proofs.CountLaws.{by_order}
+use Rattle.smc_census.proofs.WalkSteps.{HomesAreValid}
 use Rattle.smc_census.proofs.PairLaws.{IsNumbering, values-numbered}
 
 -- the slot of an entry's object
@@ -95,6 +100,39 @@ module _ (opening : Opening) (shape : Layout) (s : State) (e : Everything openin
       go : (back : Option Number) → back_in s.memory coll slot ≡ back → owner_is_at s.memory slot back ≡ true → ranges.InBack shape coll back → HasOwner coll slot
       go None at is within = absurd (cc)
       go (Some n) at is within = record { owner = n; back = at; home = within.home; entry = within.entry; here = is }
+
+  -- an object is in such a slot, or is to be
+  pub home-placed : (coll slot : ℕ) → slot < slots_of shape coll → is_home s.memory coll slot ≡ true → IsPlaced (dir_in s.memory coll slot)
+  home-placed coll slot lt is =
+      let h = home-owner coll slot lt is in
+      subst (λ (c : ℕ). IsPlaced (dir_in s.memory c slot)) h.home
+      ((objects (shut e.whole)).placed h.owner.coll h.owner.incarnation h.owner.entry slot (present-at h.owner.incarnation slot (state_for s.memory h.owner) h.here))
+
+  -- where none of them is a target, an object is in each of them
+  pub homes-valid : (coll : ℕ) → ((slot : ℕ) → slot < slots_of shape coll → is_home s.memory coll slot ≡ true → ¬ (IsIncoming s.memory coll slot))
+      → HomesAreValid s.memory coll (slots_of shape coll)
+  homes-valid coll none slot lt is = go (dir_in s.memory coll slot) refl (home-placed coll slot lt is)
+    where
+      go : (d : Dir) → dir_in s.memory coll slot ≡ d → IsPlaced d → dir_in s.memory coll slot ≡ dir.Valid
+      go dir.Valid at placed = at
+      go dir.Incoming at placed = absurd (none slot lt is at)
+      go dir.Free at placed = absurd placed
+      go dir.Claimed at placed = absurd placed
+      go (dir.Limbo stamp) at placed = absurd placed
+
+  -- no slot is a target of a collection without a round
+  pub no_target-without_round : (coll : ℕ) → (IsRoundOf coll (round_in s.memory) → ⊥) → (slot : ℕ) → ¬ (IsIncoming s.memory coll slot)
+  no_target-without_round coll none slot is = none ((moves (shut e.whole)).incoming_round coll slot is)
+
+  -- nor is one with a present object, while the owner of the round is at no locked move
+  pub homes-no_target : (pass coll : ℕ) → pass < shape.passes → Owns (s.stands pass).round → moving_to (s.stands pass).phase ≡ None
+      → (slot : ℕ) → slot < slots_of shape coll → is_home s.memory coll slot ≡ true → ¬ (IsIncoming s.memory coll slot)
+  homes-no_target pass coll within owns still slot lt has is =
+      let h = home-owner coll slot lt has in
+      let incoming : IsIncoming s.memory h.owner.coll slot = subst (λ (c : ℕ). IsIncoming s.memory c slot) (sym h.home) is in
+      let to : moving_to (s.stands pass).phase ≡ Some (h.owner.coll, slot) = (moves (shut e.whole)).standing_in pass h.owner.coll h.owner.incarnation h.owner.entry slot within owns
+          (present-stands h.owner.incarnation slot (state_for s.memory h.owner) (present-at h.owner.incarnation slot (state_for s.memory h.owner) h.here)) incoming in
+      absurd (cc)
 
   -- an object of a collection that is present, by its number
   present-object : (world : World) (coll : ℕ) (n : Number) (o : Object) → IsHome world → object_of world n ≡ Some o → is_present_in coll o ≡ true

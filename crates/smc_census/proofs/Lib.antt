@@ -1,6 +1,7 @@
 pub mod CountLaws
 pub mod BlockLaws
 pub mod WalkLaws
+pub mod WalkSteps
 pub mod PairLaws
 pub mod HomeCounts
 pub mod MadeWorlds

@@ -5,8 +5,7 @@ use Rattle.smc_shape.specs.declared.coll.TheConstants.{BLOCK_SLOTS}
 use Rattle.smc_core.specs.declared.phase.moves.Count.{Count}
 use Rattle.smc_core.specs.Count.{block_of, no_count, with_object}
 use Rattle.smc_census.specs.Counts.{count_below, count_between, any_between, any_in_block, is_first_in_block, block_start}
-use Rattle.smc_census.specs.Laws.{walked, WalksCountAll}
-use Rattle.smc_census.proofs.CountLaws.{by_test, one-if, none-if, count_below-zero, count_below-suc, count_below-yes, count_below-no, count_below-mono, count_between-none, count_between-not_last, count_between-order, some-count_between}
+use Rattle.smc_census.proofs.CountLaws.{by_test, one-if, none-if, count_below-zero, count_below-suc, count_below-yes, count_below-no, count_below-mono, count_between-none, count_between-not_last, count_between-order, count_below-same, count_between-same, some-count_between}
 use Rattle.smc_census.proofs.BlockLaws.{any-counted, none-counted, counted-any, counted-none, first-block}
 
 -- what a walk has counted once it has passed the slots below this one: those that have the property, and the blocks that
@@ -171,14 +170,18 @@ module _ (P : ℕ → Bool) where
     c.blocks ∙ (ap (count_below (is_first_in_block P)) (omega arith) ∙ firsts-any (slots / BLOCK_SLOTS)),
   )
 
-  counts-walked : (slot : ℕ) → CountsBelow P slot (walked P slot)
-  counts-walked zero = counts-none
-  counts-walked (suc slot) =
-      let so = counts-walked slot in
-      subst (λ n. CountsBelow P n (cond (P slot) (with_object slot (walked P slot)) (walked P slot))) (add-one slot) (by_test (P slot)
-      (λ has. subst (λ b. CountsBelow P (slot + 1) (cond b (with_object slot (walked P slot)) (walked P slot))) (sym has) (counts-object slot (walked P slot) has so))
-      (λ lacks. subst (λ b. CountsBelow P (slot + 1) (cond b (with_object slot (walked P slot)) (walked P slot))) (sym lacks) (counts-pass slot (walked P slot) lacks so)))
+-- the same is counted of a property that says the same of the slots that are passed
+pub counts-same : (P Q : ℕ → Bool) (slot : ℕ) (count : Count) → ((n : ℕ) → n < slot → P n ≡ Q n) → CountsBelow P slot count → CountsBelow Q slot count
+counts-same P Q slot count same c = record {
+  objects = c.objects ∙ count_below-same P Q slot same;
+  blocks = c.blocks ∙ count_below-same (is_first_in_block P) (is_first_in_block Q) slot first;
+  within = c.within;
+  met = λ lt. omega (arith, within slot (omega arith), c.met lt);
+  unmet = λ some. c.unmet (omega (arith, within slot (omega arith), some));
+}
+  where
+    within : (n : ℕ) → n ≤ slot → count_between P (block_start (block_of n)) n ≡ count_between Q (block_start (block_of n)) n
+    within n le = count_between-same P Q (block_start (block_of n)) n (λ m low lt. same m (omega arith))
 
--- a walk that counts each slot that has the property ends with their number, and with that of their blocks
-pub counted_all : WalksCountAll
-counted_all P slots whole = counts-all P slots (walked P slots) whole (counts-walked P slots)
+    first : (n : ℕ) → n < slot → is_first_in_block P n ≡ is_first_in_block Q n
+    first n lt = ap (λ b. b && not (any_between P (block_start (block_of n)) n)) (same n lt) ∙ ap (λ (k : ℕ). Q n && not (nat_lt 0 k)) (within n (omega arith))

@@ -7,7 +7,7 @@ pub fn homes_are_objects()
     ensures { HoldsAlways HomesAreObjects }
 {}
 
-/// The objects that are present lie in their blocks: no more than a block has slots in each.
+/// The objects that are present lie in their blocks: at least one in each, and no more than it has slots.
 pub fn blocks_are_enough()
     ensures { HoldsAlways BlocksAreEnough }
 {}
@@ -17,7 +17,8 @@ pub fn packed_is_enough()
     ensures { PackedIsEnough }
 {}
 
-/// A walk that counts each slot with a present object ends with their number, and with that of their blocks.
+/// A counting walk, of a begin or a survey, through a memory that stays as it is ends with the number of present objects and
+/// that of the blocks that hold one, where no slot of the collection is a target.
 pub fn walks_count_all()
-    ensures { WalksCountAll }
+    ensures { HoldsAlways WalksCountAll }
 {}
