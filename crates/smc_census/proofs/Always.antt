@@ -1,21 +1,22 @@
 -- What counts come to in every state that lists of steps lead to.
-use Rattle.std.proofs.Common.{◌≡◌, ℕ, ◌%◌, length, refl, ap, ◌∙◌, subst, arith}
+use Rattle.std.proofs.Common.{◌*◌, ◌≡◌, ℕ, ◌%◌, length, le_antisymm, ap, ◌∙◌, arith}
 use Rattle.std.proofs.lemmas.List.{get_or_past}
 use Rattle.smc_shape.specs.Layout.{Layout, Collection, IsShape, no_coll, slots_of}
 use Rattle.smc_shape.specs.declared.coll.TheConstants.{BLOCK_SLOTS}
 use Rattle.smc_core.specs.declared.local.Opening.{Opening}
 use Rattle.smc_core.specs.declared.phase.moves.CountPhase.TheVariants as walk
+use Rattle.smc_core.specs.declared.phase.moves.Counting.{Counting}
 use Rattle.smc_core.specs.declared.phase.moves.Counting.TheVariants.{Walks, Counted}
-use Rattle.smc_core.specs.Count.{no_count}
+use Rattle.smc_core.specs.Count.{blocks_for, no_count}
 use Rattle.smc_rules.specs.State.{State}
 use Rattle.smc_laws.specs.Laws.{HoldsAlways}
-use Rattle.smc_census.specs.Census.{is_home, blocks_of}
+use Rattle.smc_census.specs.Census.{is_home, homes, blocks_of, occupied}
 use Rattle.smc_census.specs.Counts.{any_in_block}
-use Rattle.smc_census.specs.Laws.{HomesAreObjects, BlocksAreEnough, WalksCountAll}
-use Rattle.smc_census.proofs.BlockLaws.{blocks-hold, blocks-need, whole-blocks}
+use Rattle.smc_census.specs.Laws.{HomesAreObjects, BlocksAreEnough, PackedIsEnough, WalksCountAll, HasCountedAll, counting_after}
+use Rattle.smc_census.proofs.BlockLaws.{blocks-hold, blocks-least, blocks-most, blocks-need, whole-blocks}
 use Rattle.smc_census.proofs.CountLaws.{by_order, count_below-le}
 use Rattle.smc_census.proofs.HomeCounts.{homes-objects, homes-valid}
-use Rattle.smc_census.proofs.WalkSteps.{CountsIn, counts-first, counts-after}
+use Rattle.smc_census.proofs.WalkSteps.{HasCounted, counts-whole}
 use Rattle.smc_census.proofs.MadeWorlds.{EverythingMade, everything_made-reached, made-home}
 
 -- what follows of a state for every shape holds always
@@ -41,15 +42,31 @@ blocks_enough opening shape s valid h = record {
     whole-blocks (is_home s.memory coll) (slots_of shape coll) (slots-whole shape coll valid),
     blocks-hold (is_home s.memory coll) (blocks_of shape coll),
   );
-  needed = λ coll. omega (arith, homes_objects opening shape s h coll, whole-blocks (is_home s.memory coll) (slots_of shape coll) (slots-whole shape coll valid),
-      blocks-need (is_home s.memory coll) (blocks_of shape coll));
+  needed = λ coll. omega (
+    arith,
+    homes_objects opening shape s h coll,
+    whole-blocks (is_home s.memory coll) (slots_of shape coll) (slots-whole shape coll valid),
+    blocks-need (is_home s.memory coll) (blocks_of shape coll),
+  );
   slots = λ coll. omega (arith, homes_objects opening shape s h coll, count_below-le (is_home s.memory coll) (slots_of shape coll));
   blocks = λ coll. count_below-le (any_in_block (is_home s.memory coll)) (blocks_of shape coll);
 }
 
+-- where the objects are packed, the blocks that hold one are as many as they need
+pub packed_enough : PackedIsEnough
+packed_enough shape memory coll valid packed = le_antisymm
+    (blocks-most (is_home memory coll) (slots_of shape coll) (blocks_for (homes shape memory coll)) (slots-whole shape coll valid) packed)
+    (blocks-least (is_home memory coll) (slots_of shape coll) (slots-whole shape coll valid))
+
 pub walks_count : (opening : Opening) (shape : Layout) (s : State) → IsShape shape → EverythingMade opening shape s → WalksCountAll shape opening s
-walks_count opening shape s valid h coll steps count is_coll none ends =
-    let c = counts-after shape s.memory coll steps (Walks (walk.Directory coll 0 no_count)) (slots-whole shape coll valid)
-        (homes-valid opening shape s h.rule coll (λ slot lt has. none slot)) (refl, counts-first shape s.memory coll (valid.coll coll is_coll).some_slots) in
-    let all : CountsIn shape s.memory coll (Counted coll count) = subst (CountsIn shape s.memory coll) ends c in
-    (all.1 ∙ homes_objects opening shape s h coll, all.2)
+walks_count opening shape s valid h coll is_coll none =
+    go (counting_after shape s.memory (3 * slots_of shape coll) (Walks (walk.Directory coll 0 no_count)))
+    (counts-whole shape s.memory coll (slots-whole shape coll valid) (valid.coll coll is_coll).some_slots (homes-valid opening shape s h.rule coll (λ slot lt has. none slot)))
+  where
+    go : (at : Counting) → HasCounted shape s.memory coll at → HasCountedAll shape s coll at
+    go (Walks next) c = absurd c
+    go (Counted own count) c = (
+      c.0,
+      c.1 ∙ (ap (homes shape s.memory) c.0 ∙ homes_objects opening shape s h coll),
+      c.2 ∙ ap (occupied shape s.memory) c.0,
+    )

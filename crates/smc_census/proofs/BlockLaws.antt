@@ -4,7 +4,6 @@ use Rattle.std.proofs.lemmas.Bool.Decides.{nat_tests}
 use Rattle.smc_shape.specs.declared.coll.TheConstants.{BLOCK_SLOTS}
 use Rattle.smc_core.specs.Count.{blocks_for}
 use Rattle.smc_census.specs.Counts.{count_below, count_between, any_between, any_in_block, block_start}
-use Rattle.smc_census.specs.Laws.{PackedIsEnough}
 use Rattle.smc_census.proofs.CountLaws.{by_test, one-if, none-if, count_below-zero, count_below-suc, count_below-mono, count_below-within, count_between-le, count_between-some, some-count_between}
 
 module _ (P : ℕ → Bool) where
@@ -60,10 +59,12 @@ module _ (P : ℕ → Bool) where
   pub whole-blocks : (slots : ℕ) → slots % BLOCK_SLOTS ≡ 0 → count_below P (block_start (slots / BLOCK_SLOTS)) ≡ count_below P slots
   whole-blocks slots whole = ap (count_below P) (omega arith)
 
--- where all lie in the first blocks, as many as they need, they lie in just as many
-pub packed_enough : PackedIsEnough
-packed_enough P slots whole each =
-    let at_least : count_below P slots ≤ count_below (any_in_block P) (slots / BLOCK_SLOTS) * BLOCK_SLOTS = omega (arith, blocks-hold P (slots / BLOCK_SLOTS), whole-blocks P slots whole) in
-    let at_most : count_below (any_in_block P) (slots / BLOCK_SLOTS) ≤ blocks_for (count_below P slots) = count_below-within (any_in_block P) (slots / BLOCK_SLOTS) (blocks_for (count_below P slots)) (λ block lt is.
-    let (slot, low, high, has) = in_block-some P block is in omega (arith, each slot (omega arith) has)) in
-    omega (arith, at_least, at_most)
+  -- the slots that have it need no more blocks than hold one
+  pub blocks-least : (slots : ℕ) → slots % BLOCK_SLOTS ≡ 0 → blocks_for (count_below P slots) ≤ count_below (any_in_block P) (slots / BLOCK_SLOTS)
+  blocks-least slots whole = omega (arith, blocks-hold (slots / BLOCK_SLOTS), whole-blocks slots whole)
+
+  -- where all lie in the first blocks, no more than these hold one
+  pub blocks-most : (slots most : ℕ) → slots % BLOCK_SLOTS ≡ 0 → ((slot : ℕ) → slot < slots → P slot ≡ true → slot < block_start most)
+      → count_below (any_in_block P) (slots / BLOCK_SLOTS) ≤ most
+  blocks-most slots most whole each = count_below-within (any_in_block P) (slots / BLOCK_SLOTS) most (λ block lt is.
+      let (slot, low, high, has) = in_block-some block is in omega (arith, each slot (omega arith) has))

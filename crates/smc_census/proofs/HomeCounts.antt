@@ -131,7 +131,7 @@ module _ (opening : Opening) (shape : Layout) (s : State) (e : Everything openin
       let h = home-owner coll slot lt has in
       let incoming : IsIncoming s.memory h.owner.coll slot = subst (λ (c : ℕ). IsIncoming s.memory c slot) (sym h.home) is in
       let to : moving_to (s.stands pass).phase ≡ Some (h.owner.coll, slot) = (moves (shut e.whole)).standing_in pass h.owner.coll h.owner.incarnation h.owner.entry slot within owns
-          (present-stands h.owner.incarnation slot (state_for s.memory h.owner) (present-at h.owner.incarnation slot (state_for s.memory h.owner) h.here)) incoming in
+      (present-stands h.owner.incarnation slot (state_for s.memory h.owner) (present-at h.owner.incarnation slot (state_for s.memory h.owner) h.here)) incoming in
       absurd (cc)
 
   -- an object of a collection that is present, by its number

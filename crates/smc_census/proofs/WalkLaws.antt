@@ -1,12 +1,16 @@
 -- What a walk over slots has counted, if it counts each slot that has the property.
-use Rattle.std.proofs.Common.{◌≡◌, ℕ, zero, suc, ◌+◌, ◌*◌, ◌/◌, ◌%◌, ◌<◌, ◌≤◌, ◌&&◌, nat_lt, if◌then◌else◌, Bool, true, false, cond, not, refl, sym, ap, ◌∙◌, subst, add-one, arith}
+use Rattle.std.proofs.Common.{◌≡◌, ℕ, zero, suc, ◌+◌, ◌*◌, ◌/◌, ◌%◌, ◌<◌, ◌≤◌, ◌&&◌, nat_lt, if◌then◌else◌, Bool, true, false, cond, not, refl, sym, ap, ◌∙◌, subst, arith}
 use Rattle.std.proofs.lemmas.Bool.Decides.{nat_tests}
 use Rattle.smc_shape.specs.declared.coll.TheConstants.{BLOCK_SLOTS}
 use Rattle.smc_core.specs.declared.phase.moves.Count.{Count}
 use Rattle.smc_core.specs.Count.{block_of, no_count, with_object}
-use Rattle.smc_census.specs.Counts.{count_below, count_between, any_between, any_in_block, is_first_in_block, block_start}
+use Rattle.smc_census.specs.Counts.{count_below, count_between, any_between, any_in_block, block_start}
 use Rattle.smc_census.proofs.CountLaws.{by_test, one-if, none-if, count_below-zero, count_below-suc, count_below-yes, count_below-no, count_below-mono, count_between-none, count_between-not_last, count_between-order, count_below-same, count_between-same, some-count_between}
 use Rattle.smc_census.proofs.BlockLaws.{any-counted, none-counted, counted-any, counted-none, first-block}
+
+-- whether the slot has it, and none before it in its block
+abbrev pub is_first_in_block : (ℕ → Bool) → ℕ → Bool
+is_first_in_block P slot = P slot && not (any_between P (block_start (block_of slot)) slot)
 
 -- what a walk has counted once it has passed the slots below this one: those that have the property, and the blocks that
 -- hold one of them; and its next block is after the block of the last of them

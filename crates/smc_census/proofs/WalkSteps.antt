@@ -1,7 +1,6 @@
 -- What a counting walk knows at each of its steps, in a memory that stays as it is.
-use Rattle.std.proofs.Common.{◌≡◌, ℕ, zero, suc, ◌+◌, ◌%◌, ◌<◌, ◌≤◌, nat_lt, if◌then◌else◌, Bool, true, false, Option, Some, None, length, refl, sym, ap, ◌∙◌, subst, arith}
+use Rattle.std.proofs.Common.{◌≡◌, ℕ, zero, suc, ◌+◌, ◌-◌, ◌*◌, ◌%◌, ◌<◌, ◌≤◌, nat_lt, if◌then◌else◌, Bool, true, false, Option, Some, None, refl, sym, ap, ◌∙◌, subst, arith}
 use Rattle.std.proofs.lemmas.Bool.Decides.{nat_tests}
-use Rattle.smc_words.specs.declared.dir.Dir.{Dir}
 use Rattle.smc_words.specs.declared.dir.Dir.TheVariants as dir
 use Rattle.smc_words.specs.declared.number.Number.{Number}
 use Rattle.smc_shape.specs.Layout.{Layout, slots_of}
@@ -12,8 +11,9 @@ use Rattle.smc_core.specs.declared.phase.moves.CountPhase.{CountPhase}
 use Rattle.smc_core.specs.declared.phase.moves.CountPhase.TheVariants as walk
 use Rattle.smc_core.specs.declared.phase.moves.Counting.{Counting}
 use Rattle.smc_core.specs.declared.phase.moves.Counting.TheVariants.{Walks, Counted}
+use Rattle.smc_core.specs.declared.word.Word.{Word}
 use Rattle.smc_core.specs.Count.{no_count, with_object, is_valid, count_offer, count_next, count_owner, counting}
-use Rattle.smc_core.specs.Words.{has_object_at, state_of}
+use Rattle.smc_core.specs.Words.{has_object_at, state_of, dir_of, back_of}
 use Rattle.smc_rules.specs.Memory.{Memory, seen}
 use Rattle.smc_rules.specs.Reads.{dir_in, back_in, state_for}
 use Rattle.smc_census.specs.Census.{owner_is_at, is_home, homes, occupied}
@@ -94,13 +94,60 @@ module _ (shape : Layout) (memory : Memory) where
   counts-step (walk.Back coll slot count) whole valid at = back-step coll whole valid slot count at.0 at.1
   counts-step (walk.Entry coll slot count number) whole valid at = entry-step coll whole valid slot count number at.0 at.1 at.2
 
-  -- and so many of them
-  pub counts-after : (coll steps : ℕ) (at : Counting) → slots_of shape coll % BLOCK_SLOTS ≡ 0 → HomesAreValid memory coll (slots_of shape coll)
-      → CountsIn shape memory coll at → CountsIn shape memory coll (counting_after shape memory steps at)
-  counts-after coll zero at whole valid c = c
-  counts-after coll (suc steps) (Counted own count) whole valid c = c
-  counts-after coll (suc steps) (Walks next) whole valid c =
-      counts-after coll steps (counting shape next (seen (count_offer next).op memory)) whole valid
+  -- the steps that are left to a walk: three for each slot that is not passed
+  left : Counting → ℕ
+  left (Walks (walk.Directory coll slot count)) = 3 * (slots_of shape coll - slot)
+  left (Walks (walk.Back coll slot count)) = 3 * (slots_of shape coll - slot) - 1
+  left (Walks (walk.Entry coll slot count number)) = 3 * (slots_of shape coll - slot) - 2
+  left (Counted coll count) = 0
+
+  left-next : (coll slot : ℕ) (count : Count) → slot < slots_of shape coll → left (count_next shape coll slot count) + 3 ≤ 3 * (slots_of shape coll - slot)
+  unfolding left
+  left-next coll slot count lt = go (nat_lt (slot + 1) (slots_of shape coll)) refl
+    where
+      go : (b : Bool) → nat_lt (slot + 1) (slots_of shape coll) ≡ b → left (if b then Walks (walk.Directory coll (slot + 1) count) else Counted coll count) + 3 ≤ 3 * (slots_of shape coll - slot)
+      go true is = omega (arith, lt)
+      go false is = omega (arith, lt)
+
+  -- a step leaves one less
+  left-step : (next : CountPhase) (w : Word) → CountsAt shape memory next → left (counting shape next w) < left (Walks next)
+  unfolding left
+  left-step (walk.Directory coll slot count) w at = go (is_valid (dir_of w))
+    where
+      go : (b : Bool) → left (if b then Walks (walk.Back coll slot count) else count_next shape coll slot count) < 3 * (slots_of shape coll - slot)
+      go true = omega (arith, at.0)
+      go false = omega (arith, left-next coll slot count at.0)
+  left-step (walk.Back coll slot count) w at = go (back_of w)
+    where
+      go : (back : Option Number) → left (count_owner shape coll slot count back) < 3 * (slots_of shape coll - slot) - 1
+      go None = omega (arith, left-next coll slot count at.0)
+      go (Some number) = omega (arith, at.0)
+  left-step (walk.Entry coll slot count number) w at =
+      omega (arith, left-next coll slot (if has_object_at number.incarnation slot (state_of w) then with_object slot count else count) at.0)
+
+  -- one that has steps left walks
+  some-left : (next : CountPhase) → CountsAt shape memory next → 0 < left (Walks next)
+  some-left next at = omega (arith, left-step next (memory place.Epoch) at)
+
+  -- the walk has ended, and has counted all
+  abbrev pub HasCounted : ℕ → Counting → Type 0
+  HasCounted coll (Walks next) = ⊥
+  HasCounted coll (Counted own count) = (own ≡ coll) × (count.objects ≡ homes shape memory own) × (count.blocks ≡ occupied shape memory own)
+
+  -- so it is after as many steps as are left
+  counts-after : (coll steps : ℕ) (at : Counting) → slots_of shape coll % BLOCK_SLOTS ≡ 0 → HomesAreValid memory coll (slots_of shape coll)
+      → left at ≤ steps → CountsIn shape memory coll at → HasCounted coll (counting_after shape memory steps at)
+  counts-after coll zero (Counted own count) whole valid le c = c
+  counts-after coll zero (Walks next) whole valid le c = absurd (omega (arith, some-left next c.1))
+  counts-after coll (suc steps) (Counted own count) whole valid le c = c
+  counts-after coll (suc steps) (Walks next) whole valid le c =
+      counts-after coll steps (counting shape next (seen (count_offer next).op memory)) whole valid (omega (arith, left-step next (seen (count_offer next).op memory) c.1))
       (subst (λ (k : ℕ). CountsIn shape memory k (counting shape next (seen (count_offer next).op memory))) c.0
       (counts-step next (ap (λ (k : ℕ). slots_of shape k % BLOCK_SLOTS) c.0 ∙ whole)
       (subst (λ (k : ℕ). HomesAreValid memory k (slots_of shape k)) (sym c.0) valid) c.1))
+
+  -- a whole walk
+  pub counts-whole : (coll : ℕ) → slots_of shape coll % BLOCK_SLOTS ≡ 0 → 0 < slots_of shape coll → HomesAreValid memory coll (slots_of shape coll)
+      → HasCounted coll (counting_after shape memory (3 * slots_of shape coll) (Walks (walk.Directory coll 0 no_count)))
+  unfolding left
+  counts-whole coll whole some valid = counts-after coll (3 * slots_of shape coll) (Walks (walk.Directory coll 0 no_count)) whole valid (omega arith) (refl, counts-first coll some)

@@ -1,7 +1,6 @@
 -- How many numbers have a property, and how many blocks hold one that has it.
-use Rattle.std.specs.Prelude.{ℕ, zero, suc, ◌+◌, ◌-◌, ◌*◌, nat_lt, not, ◌&&◌, Bool, cond}
+use Rattle.std.specs.Prelude.{ℕ, zero, suc, ◌+◌, ◌-◌, ◌*◌, nat_lt, Bool, cond}
 use Rattle.smc_shape.specs.declared.coll.TheConstants.{BLOCK_SLOTS}
-use Rattle.smc_core.specs.Count.{block_of}
 
 -- how many numbers below this one have the property
 unfoldable pub count_below : (ℕ → Bool) → ℕ → ℕ
@@ -23,7 +22,3 @@ block_start block = block * BLOCK_SLOTS
 -- whether some slot of the block has it
 abbrev pub any_in_block : (ℕ → Bool) → ℕ → Bool
 any_in_block P block = any_between P (block_start block) (block_start (block + 1))
-
--- whether the slot has it, and none before it in its block
-abbrev pub is_first_in_block : (ℕ → Bool) → ℕ → Bool
-is_first_in_block P slot = P slot && not (any_between P (block_start (block_of slot)) slot)

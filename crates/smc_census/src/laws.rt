@@ -17,8 +17,8 @@ pub fn packed_is_enough()
     ensures { PackedIsEnough }
 {}
 
-/// A counting walk, of a begin or a survey, through a memory that stays as it is ends with the number of present objects and
-/// that of the blocks that hold one, where no slot of the collection is a target.
+/// A counting walk, of a begin or a survey, through a memory that stays as it is: after three steps for each slot it has
+/// counted the present objects, and the blocks that hold one, where no slot of the collection is a target.
 pub fn walks_count_all()
     ensures { HoldsAlways WalksCountAll }
 {}
