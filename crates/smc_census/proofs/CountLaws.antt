@@ -260,8 +260,3 @@ module _ (P Q : ℕ → Bool) (from to : ℕ) where
         by_order n from (λ out. let lacks : from_on from P n ≡ false = from_on-out from P n out in absurd (cc))
         (λ le. from_on-in from Q n le ∙ each n le lt (sym (from_on-in from P n le) ∙ has))),
   )
-
--- where no more have it than the first `kept` numbers, the numbers without it among these are at least as many as those with it behind
-pub room_before : (P : ℕ → Bool) (kept all : ℕ) → kept ≤ all → count_below P all ≤ kept
-    → count_between P kept all ≤ count_between (λ n. not (P n)) 0 kept
-room_before P kept all le few = omega (arith, count_below-both P kept, count_below-mono P kept all le, count_between-below (λ n. not (P n)) kept)

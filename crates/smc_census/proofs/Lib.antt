@@ -1,5 +1,6 @@
 pub mod CountLaws
 pub mod BlockLaws
+pub mod RoomLaws
 pub mod WalkLaws
 pub mod WalkSteps
 pub mod PairLaws
