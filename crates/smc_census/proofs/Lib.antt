@@ -1,0 +1,9 @@
+pub mod CountLaws
+pub mod BlockLaws
+pub mod RoomLaws
+pub mod WalkLaws
+pub mod WalkSteps
+pub mod PairLaws
+pub mod HomeCounts
+pub mod MadeWorlds
+pub mod Always
