@@ -22,7 +22,8 @@ use Rattle.smc_agreement.specs.Entries.{stands_at, IsRemoved, IsPlaced, IsRoundO
 use Rattle.smc_agreement.specs.Parts.{lives_in, source_left, removed_by}
 use Rattle.smc_agreement.proofs.Whole.{Shut, shut, claims, objects, moves, ranges}
 use Rattle.smc_laws.proofs.SlotLaws.{slot_rule}
-use Rattle.smc_inv_use.specs.Rest.{IsResting, IsAtRest, HasOneObject, IsSlotAtRest, IsEntryAtRest}
+use Rattle.smc_aside.specs.Aside.{IsResting}
+use Rattle.smc_inv_use.specs.Rest.{IsAtRest, HasOneObject, IsSlotAtRest, IsEntryAtRest}
 use Rattle.smc_inv_use.specs.Uses.{IsUsed}
 use Rattle.smc_inv_use.proofs.Used.{Used}
 

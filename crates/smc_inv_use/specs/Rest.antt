@@ -3,21 +3,13 @@ use Rattle.std.specs.Prelude.{◌≡◌, ℕ, ◌<◌, None}
 use Rattle.smc_words.specs.declared.dir.Dir.{Dir}
 use Rattle.smc_words.specs.declared.dir.Dir.TheVariants as dir
 use Rattle.smc_shape.specs.Layout.{Layout, slots_of, entries_of}
-use Rattle.smc_core.specs.declared.phase.Phase.{Phase}
-use Rattle.smc_core.specs.declared.phase.Phase.TheVariants as phase
 use Rattle.smc_core.specs.declared.word.State as E
 use Rattle.smc_core.specs.declared.word.State.TheVariants as state
 use Rattle.smc_rules.specs.Memory.{Memory}
 use Rattle.smc_rules.specs.Reads.{round_in, state_in, dir_in, object}
 use Rattle.smc_rules.specs.SlotRule.{IsHome}
 use Rattle.smc_rules.specs.State.{State}
-
--- no call is in progress, or an advance
-abbrev pub IsResting : Phase → Type 0
-IsResting phase.Idle = Unit {0}
-IsResting (phase.Advancing epoch other) = Unit {0}
-IsResting (phase.Ready epoch) = Unit {0}
-IsResting _ = ⊥
+use Rattle.smc_aside.specs.Aside.{IsResting}
 
 -- no pass has a call in progress but an advance, and there is no round
 pub record IsAtRest (shape : Layout) (s : State) : Type 0 where
