@@ -12,10 +12,9 @@ def used(kind_, entry=None, lives=None, left=None):
     if k["writes"] == "entry" and entry == "inl (a1, e1, y)":
         entry = "inl (a1, e1, grind (arith, nat_tests))"
     was = f"(r.u_slot c' s' {'(grind (arith, nat_tests))' if k['writes'] == 'dir' else 'is'})"
-    head = f"sh st.memory {memory} st.stands p {stand} {k['call']} c' s' at_call"
-    if lives or left:
-        return f"kept_use {head} (λ a1 e1 y. {entry}) (λ a1 e1 y. {lives or 'absurd (cc)'}) (λ y. {left or 'absurd (cc)'}) {was}"
-    return f"kept_entry {head} refl refl (λ a1 e1 y. {entry}) {was}"
+    none = "(absurd (cc))"
+    return (f"kept_use sh st.memory {memory} st.stands p {stand} {k['call']} c' s' at_call (λ y0. let (a1, e1, y) = y0 in {entry}) "
+            f"(λ y0. let (a1, e1, y) = y0 in {lives or none}) (λ y. {left or none}) {was}")
 
 
 for k_ in BY:
@@ -27,13 +26,13 @@ for k_, facts_ in (("store_live", ["c_entry p c a e in_n"]), ("free_entry", ["c_
 SWUNG = "by_true (same_word (st.memory (place.Entry {c} e)) (word.Entry (state.Locked a q)) && (e1 == e && c' == {c})) (λ t1. {left}) (λ n1. inl (a1, e1, grind (arith, nat_tests)))"
 OWES = "inr (inr (p, in_n, grind (arith, nat_tests)))"
 LOCKED = "(grind (arith, nat_tests))"
-TERM[("l_swing", "u_slot")] = used("l_swing", entry=SWUNG.format(c="c", left=f"inr (inr (left_stays sh st.stands p {then(BY['l_swing'])[0]} {BY['l_swing']['call']} c' s' at_call refl (locked_left sh st h c' a e s' {LOCKED})))"))
+TERM[("l_swing", "u_slot")] = used("l_swing", entry=SWUNG.format(c="c", left=f"inr (inr (left_stays sh st.stands p {then(BY['l_swing'])[0]} {BY['l_swing']['call']} c' s' at_call (λ y2. cc) (locked_left sh st h c' a e s' {LOCKED})))"))
 TERM[("f_swing", "u_slot")] = used("f_swing", entry=SWUNG.format(c="g.coll", left=OWES), left=OWES)
 for k_ in ("f_fwd", "f_read", "f_put"):
     TERM[(k_, "u_slot")] = used(k_, left=OWES)
 TERM[("leave_source", "u_slot")] = used("leave_source", left="absurd (grind (arith, nat_tests))")
 # a slot becomes valid: by an add that is about to make its object live in it, or by a finish whose object has moved there
-TERM[("store_valid", "u_slot")] = f"by_true (s' == s && c' == c) (λ t1. inr (inl (p, a, e, in_n, grind (arith, nat_tests)))) (λ n1. {used('store_valid')})"
+TERM[("store_valid", "u_slot")] = f"by_true (s' == s && c' == c) (λ t1. inr (inl (p, in_n, (a, e, grind (arith, nat_tests))))) (λ n1. {used('store_valid')})"
 TERM[("settle", "u_slot")] = ("by_true (same_word (st.memory (place.Directory g.coll g.slot)) (word.Directory dir.Incoming) && (s' == g.slot && c' == g.coll)) "
                               f"(λ t1. let (a1, e1, y) = settled_use sh st h r p g q in_n at_call (grind (arith, nat_tests)) in inl (a1, e1, grind (arith, nat_tests))) (λ n1. {used('settle', left=OWES)})")
 # the source of a move names its object

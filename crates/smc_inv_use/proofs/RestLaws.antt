@@ -111,7 +111,7 @@ module _ (opening : Opening) (shape : Layout) (s : State) (k : Used opening shap
   one_in_valid c slot lt is = go (k.uses.u_slot c slot is)
     where
       go : IsUsed shape s.memory s.stands c slot → HasOneObject shape s c slot
-      go (inr (inl (i, a, e, li, by))) = absurd (none-some (nothing i li).no_life by)
+      go (inr (inl (i, li, (a, e, by)))) = absurd (none-some (nothing i li).no_life by)
       go (inr (inr (i, li, by))) = absurd (none-some (nothing i li).no_source by)
       go (inl (a, e, stands)) =
           let here = only_present c e a slot stands in

@@ -1,5 +1,5 @@
 -- A user of a slot stays one, and who uses the source of a locked move.
-use Rattle.std.proofs.Common.{◌≡◌, ◌⊎◌, ℕ, ◌<◌, Option, Some, None, refl, sym, ap, ◌∙◌, subst, inl, inr, arith}
+use Rattle.std.proofs.Common.{◌≡◌, ◌≢◌, ◌⊎◌, ℕ, ◌<◌, Option, Some, None, refl, sym, ap, ◌∙◌, subst, inl, inr, arith}
 use Rattle.smc_words.specs.declared.dir.Dir.TheVariants as dir
 use Rattle.smc_words.specs.declared.number.Number.{Number}
 use Rattle.smc_shape.specs.Layout.{Layout}
@@ -19,39 +19,36 @@ use Rattle.smc_rules.specs.State as S
 use Rattle.smc_rules.specs.State.{put_stand}
 use Rattle.smc_rules.proofs.CarryLaws.{by_pass, put_stand-other}
 use Rattle.smc_agreement.specs.Entries.{stands_at, HasMoved}
-use Rattle.smc_agreement.specs.Parts.{lives_in, source_left, swung_source, leads_from, locks_of, Owns}
+use Rattle.smc_agreement.specs.Parts.{source_left, swung_source, leads_from, locks_of, Owns}
 use Rattle.smc_agreement.proofs.CrossLaws.{homes, IsHomed}
 use Rattle.smc_agreement.proofs.Whole.{Shut, calls, copies, moves, the_owner}
-use Rattle.smc_inv_use.specs.Uses.{IsStoodIn, IsToBeLeft, IsUsed, IsOwnerOf, UsesAgree, moves_by}
+use Rattle.smc_inv_use.specs.Uses.{IsStoodIn, LivesIn, HasToLeave, IsInProgress, IsUsed, IsOwnerOf, UsesAgree, moves_by}
+
+-- what another pass has in progress it has after a step of this one
+in_progress : (sh : Layout) (stands : ℕ → Stand) (p : ℕ) (stand : Stand) (P : Phase → Type 0) (i : ℕ) → i < sh.passes → i ≢ p → P (stands i).phase → IsInProgress sh (put_stand stands p stand) P
+in_progress sh stands p stand P i li n is = (i, li, subst (λ (l : Stand). P l.phase) (sym (put_stand-other stands p i stand n)) is)
+
+-- what the pass itself has in progress is its call
+its_own : (stands : ℕ → Stand) (p : ℕ) (call : Phase) (P : Phase → Type 0) (i : ℕ) → (stands p).phase ≡ call → i ≡ p → P (stands i).phase → P call
+its_own stands p call P i at_call y is = subst P (ap (λ (k : ℕ). (stands k).phase) y ∙ at_call) is
 
 -- after a step of one pass a slot is still used, where the three kinds of users of it that the step may change are
 pub kept_use : (sh : Layout) (memory after : Memory) (stands : ℕ → Stand) (p : ℕ) (stand : Stand) (call : Phase) (c s : ℕ) → (stands p).phase ≡ call
-    → ((a e : ℕ) → stands_at (state_in memory c e) ≡ Some (a, s) → IsUsed sh after (put_stand stands p stand) c s)
-    → ((a e : ℕ) → lives_in call ≡ Some (s, object a e c) → IsUsed sh after (put_stand stands p stand) c s)
-    → (source_left call ≡ Some (c, s) → IsUsed sh after (put_stand stands p stand) c s)
+    → (IsStoodIn memory c s → IsUsed sh after (put_stand stands p stand) c s)
+    → (LivesIn call c s → IsUsed sh after (put_stand stands p stand) c s)
+    → (HasToLeave call c s → IsUsed sh after (put_stand stands p stand) c s)
     → IsUsed sh memory stands c s → IsUsed sh after (put_stand stands p stand) c s
-kept_use sh memory after stands p stand call c s at_call entry lives left (inl (a, e, is)) = entry a e is
-kept_use sh memory after stands p stand call c s at_call entry lives left (inr (inl (i, a, e, li, is))) = by_pass i p
-    (λ y. lives a e (subst (λ (l : Phase). lives_in l ≡ Some (s, object a e c)) (ap (λ (k : ℕ). (stands k).phase) y ∙ at_call) is))
-    (λ n. inr (inl (i, a, e, li, subst (λ (l : Stand). lives_in l.phase ≡ Some (s, object a e c)) (sym (put_stand-other stands p i stand n)) is)))
+kept_use sh memory after stands p stand call c s at_call entry lives left (inl is) = entry is
+kept_use sh memory after stands p stand call c s at_call entry lives left (inr (inl (i, li, is))) = by_pass i p
+    (λ y. lives (its_own stands p call (λ k. LivesIn k c s) i at_call y is)) (λ n. inr (inl (in_progress sh stands p stand (λ k. LivesIn k c s) i li n is)))
 kept_use sh memory after stands p stand call c s at_call entry lives left (inr (inr (i, li, is))) = by_pass i p
-    (λ y. left (subst (λ (l : Phase). source_left l ≡ Some (c, s)) (ap (λ (k : ℕ). (stands k).phase) y ∙ at_call) is))
-    (λ n. inr (inr (i, li, subst (λ (l : Stand). source_left l.phase ≡ Some (c, s)) (sym (put_stand-other stands p i stand n)) is)))
+    (λ y. left (its_own stands p call (λ k. HasToLeave k c s) i at_call y is)) (λ n. inr (inr (in_progress sh stands p stand (λ k. HasToLeave k c s) i li n is)))
 
--- a call that neither adds nor finishes a move has no part in it
-pub kept_entry : (sh : Layout) (memory after : Memory) (stands : ℕ → Stand) (p : ℕ) (stand : Stand) (call : Phase) (c s : ℕ) → (stands p).phase ≡ call
-    → lives_in call ≡ None → source_left call ≡ None
-    → ((a e : ℕ) → stands_at (state_in memory c e) ≡ Some (a, s) → IsUsed sh after (put_stand stands p stand) c s)
-    → IsUsed sh memory stands c s → IsUsed sh after (put_stand stands p stand) c s
-kept_entry sh memory after stands p stand call c s at_call no_life no_source entry used =
-    kept_use sh memory after stands p stand call c s at_call entry (λ a e is. absurd (cc)) (λ is. absurd (cc)) used
-
--- what a finish has still to leave it has after a step of another one
-pub left_stays : (sh : Layout) (stands : ℕ → Stand) (p : ℕ) (stand : Stand) (call : Phase) (c s : ℕ) → (stands p).phase ≡ call → source_left call ≡ None
-    → IsToBeLeft sh stands c s → IsToBeLeft sh (put_stand stands p stand) c s
+-- what a finish has still to leave it has after a step of a call that has not
+pub left_stays : (sh : Layout) (stands : ℕ → Stand) (p : ℕ) (stand : Stand) (call : Phase) (c s : ℕ) → (stands p).phase ≡ call → (HasToLeave call c s → ⊥)
+    → IsInProgress sh stands (λ k. HasToLeave k c s) → IsInProgress sh (put_stand stands p stand) (λ k. HasToLeave k c s)
 left_stays sh stands p stand call c s at_call none (i, li, is) = by_pass i p
-    (λ y. absurd (let no : source_left call ≡ Some (c, s) = subst (λ (l : Phase). source_left l ≡ Some (c, s)) (ap (λ (k : ℕ). (stands k).phase) y ∙ at_call) is in cc))
-    (λ n. (i, li, subst (λ (l : Stand). source_left l.phase ≡ Some (c, s)) (sym (put_stand-other stands p i stand n)) is))
+    (λ y. absurd (none (its_own stands p call (λ k. HasToLeave k c s) i at_call y is))) (λ n. in_progress sh stands p stand (λ k. HasToLeave k c s) i li n is)
 
 -- an object that is marked gone stands where it stood
 pub gone-stands : (w : E.State) → stands_at (gone w) ≡ stands_at w
@@ -87,7 +84,7 @@ locked_call (phase.Finish (finish.GiveUp _ _)) target a e c home is = absurd (cc
 locked_call (phase.Finish (finish.End _)) target a e c home is = absurd (cc)
 
 -- the slot in which an object is locked is one that the finish of its round has still to leave
-pub locked_left : (sh : Layout) (st : S.State) → Shut sh st → (c a e q : ℕ) → state_in st.memory c e ≡ state.Locked a q → IsToBeLeft sh st.stands c q
+pub locked_left : (sh : Layout) (st : S.State) → Shut sh st → (c a e q : ℕ) → state_in st.memory c e ≡ state.Locked a q → IsInProgress sh st.stands (λ call. HasToLeave call c q)
 locked_left sh st h c a e q lk =
     let (j, b, lj, owns, round) = the_owner sh st h c ((moves h).locked c a e q lk).0 in
     let locks = (moves h).locked_owner j c a e q lj (subst Owns (sym owns) tt) lk in

@@ -19,17 +19,22 @@ use Rattle.smc_agreement.specs.Parts.{lives_in, source_left}
 abbrev pub IsStoodIn : Memory → ℕ → ℕ → Type 0
 IsStoodIn memory coll slot = (a e : ℕ) × (stands_at (state_in memory coll e) ≡ Some (a, slot))
 
--- an add is about to make its object live in it
-abbrev pub IsToBeLivedIn : Layout → (ℕ → Stand) → ℕ → ℕ → Type 0
-IsToBeLivedIn shape stands coll slot = (i a e : ℕ) × (i < shape.passes) × (lives_in (stands i).phase ≡ Some (slot, object a e coll))
+-- this call is an add that is about to make its object live in the slot
+abbrev pub LivesIn : Phase → ℕ → ℕ → Type 0
+LivesIn call coll slot = (a e : ℕ) × (lives_in call ≡ Some (slot, object a e coll))
 
--- a finish that has locked the object of this source has still to leave it
-abbrev pub IsToBeLeft : Layout → (ℕ → Stand) → ℕ → ℕ → Type 0
-IsToBeLeft shape stands coll slot = (i : ℕ) × (i < shape.passes) × (source_left (stands i).phase ≡ Some (coll, slot))
+-- this call is a finish that has locked the object of this source, and has still to leave it
+abbrev pub HasToLeave : Phase → ℕ → ℕ → Type 0
+HasToLeave call coll slot = source_left call ≡ Some (coll, slot)
 
--- the slot has a user
+-- some pass has this in progress
+abbrev pub IsInProgress : Layout → (ℕ → Stand) → (Phase → Type 0) → Type 0
+IsInProgress shape stands P = (i : ℕ) × (i < shape.passes) × P (stands i).phase
+
+-- the slot has a user: an object, or an add, or a finish
 abbrev pub IsUsed : Layout → Memory → (ℕ → Stand) → ℕ → ℕ → Type 0
-IsUsed shape memory stands coll slot = IsStoodIn memory coll slot ⊎ (IsToBeLivedIn shape stands coll slot ⊎ IsToBeLeft shape stands coll slot)
+IsUsed shape memory stands coll slot =
+    IsStoodIn memory coll slot ⊎ (IsInProgress shape stands (λ call. LivesIn call coll slot) ⊎ IsInProgress shape stands (λ call. HasToLeave call coll slot))
 
 -- a move that a finish has locked and not yet settled: source and target
 abbrev pub moves_by : Phase → Option (Slot × ℕ)
@@ -47,7 +52,7 @@ pub record UsesAgree (shape : Layout) (s : State) : Type 0 where
   -- a slot whose directory word says valid has a user
   pub u_slot : (c slot : ℕ) → dir_in s.memory c slot ≡ dir.Valid → IsUsed shape s.memory s.stands c slot
   -- the source of a locked move names its object until its finish leaves it
-  pub u_named : (i c slot : ℕ) → i < shape.passes → source_left (s.stands i).phase ≡ Some (c, slot) → IsOwnerOf c (back_in s.memory c slot)
+  pub u_named : (i c slot : ℕ) → i < shape.passes → HasToLeave (s.stands i).phase c slot → IsOwnerOf c (back_in s.memory c slot)
   -- while the target is one, that object is locked in the source or stands in the target
   pub u_moves : (i c slot target a e : ℕ) → i < shape.passes → moves_by (s.stands i).phase ≡ Some ((c, slot), target) → back_in s.memory c slot ≡ Some (object a e c)
       → dir_in s.memory c target ≡ dir.Incoming → (state_in s.memory c e ≡ state.Locked a slot) ⊎ (stands_at (state_in s.memory c e) ≡ Some (a, target))
