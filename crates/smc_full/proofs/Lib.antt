@@ -1,0 +1,7 @@
+pub mod AsideWords
+mod WalkLaws
+mod Made
+mod Sections
+mod Adds
+mod Fullness
+mod Tries
