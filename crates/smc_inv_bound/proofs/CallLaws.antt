@@ -188,7 +188,7 @@ module _ (shape : Layout) (wide : ℕ → ℕ) (widths : CountsWidths shape wide
   scan-falls (scan.End k) w counts section = omega arith
 
   -- an add
-  next_slot-falls : (coll from slot tried bound : ℕ) → 2 * (slots_of shape coll - (tried + 1)) + (2 + entry_left shape coll 0) < bound
+  pub next_slot-falls : (coll from slot tried bound : ℕ) → 2 * (slots_of shape coll - (tried + 1)) + (2 + entry_left shape coll 0) < bound
       → Falls shape wide bound (next_slot shape coll from slot tried).phase
   next_slot-falls coll from slot tried bound less section =
       cond_both (nat_lt (tried + 1) (slots_of shape coll)) (goes (phase.Add (add.FindSlot coll from (next_round (slots_of shape coll) slot) (tried + 1)))) (refuses coll Slots)

@@ -25,7 +25,7 @@ use Rattle.smc_core.specs.Machine.{Machine, Steps}
 use Rattle.smc_core.specs.Offer.{go_offer}
 use Rattle.smc_core.specs.Row.{row_shows}
 use Rattle.smc_core.specs.Section.{epoch_of, is_calm, entering_offer, entering_change, entering_section}
-use Rattle.smc_inv_bound.specs.Left.{left_in, left_of, widest, CountsWidths, CountsOwners}
+use Rattle.smc_inv_bound.specs.Left.{left_in, left_of, widest, CountsWidths, CountsOwner, CountsOwners}
 use Rattle.smc_inv_bound.proofs.CallLaws.{width_low, looking-falls, scan-falls, add-falls, remove-falls, survey-falls, begin-falls, finish-falls, cancel-falls}
 
 module _ (shape : Layout) (wide : ℕ → ℕ) where
@@ -85,33 +85,33 @@ module _ (shape : Layout) (wide : ℕ → ℕ) where
       let before : left_of shape wide m pass ≡ steps_left shape wide l.stand.section l.stand.phase = ap (left_in shape wide) step.here in
       omega (arith, now, before, go-falls pass l.stand l.stand.section l.stand.phase step.offered w widths owners step.offers)
 
--- where each record counts as one of the greatest width, each owner does
-widest_owners : (next : Phase) (w : Word) → CountsOwners widest next w
-widest_owners phase.Idle w = tt
-widest_owners phase.Entering w = tt
-widest_owners (phase.Advancing epoch other) w = tt
-widest_owners (phase.Ready epoch) w = tt
-widest_owners (phase.Look next) w = tt
-widest_owners (phase.Add next) w = tt
-widest_owners (phase.Remove next) w = tt
-widest_owners (phase.Scan (scan.Directory k coll slot)) w = tt
-widest_owners (phase.Scan (scan.Back k coll slot)) w = λ owner is. omega arith
-widest_owners (phase.Scan (scan.End k)) w = tt
-widest_owners (phase.Begin next) w = tt
-widest_owners (phase.Finish (finish.Directory targets)) w = tt
-widest_owners (phase.Finish (finish.Back targets)) w = λ owner is. omega arith
-widest_owners (phase.Finish (finish.Entry targets number)) w = tt
-widest_owners (phase.Finish (finish.Lock targets number source)) w = tt
-widest_owners (phase.Finish (finish.Move targets number source next)) w = tt
-widest_owners (phase.Finish (finish.Settle targets source)) w = tt
-widest_owners (phase.Finish (finish.LeaveSource targets source)) w = tt
-widest_owners (phase.Finish (finish.GiveUp targets gone)) w = tt
-widest_owners (phase.Finish (finish.End targets)) w = tt
-widest_owners (phase.Cancel next) w = tt
-widest_owners (phase.Survey next) w = tt
+-- where the owner that a word names counts as no wider than any collection's record, it does so wherever it is shown
+pub any_owners : (wide : ℕ → ℕ) (next : Phase) (w : Word) → ((coll : ℕ) → CountsOwner wide coll w) → CountsOwners wide next w
+any_owners wide phase.Idle w counts = tt
+any_owners wide phase.Entering w counts = tt
+any_owners wide (phase.Advancing epoch other) w counts = tt
+any_owners wide (phase.Ready epoch) w counts = tt
+any_owners wide (phase.Look next) w counts = tt
+any_owners wide (phase.Add next) w counts = tt
+any_owners wide (phase.Remove next) w counts = tt
+any_owners wide (phase.Scan (scan.Directory k coll slot)) w counts = tt
+any_owners wide (phase.Scan (scan.Back k coll slot)) w counts = counts coll
+any_owners wide (phase.Scan (scan.End k)) w counts = tt
+any_owners wide (phase.Begin next) w counts = tt
+any_owners wide (phase.Finish (finish.Directory targets)) w counts = tt
+any_owners wide (phase.Finish (finish.Back targets)) w counts = counts targets.coll
+any_owners wide (phase.Finish (finish.Entry targets number)) w counts = tt
+any_owners wide (phase.Finish (finish.Lock targets number source)) w counts = tt
+any_owners wide (phase.Finish (finish.Move targets number source next)) w counts = tt
+any_owners wide (phase.Finish (finish.Settle targets source)) w counts = tt
+any_owners wide (phase.Finish (finish.LeaveSource targets source)) w counts = tt
+any_owners wide (phase.Finish (finish.GiveUp targets gone)) w counts = tt
+any_owners wide (phase.Finish (finish.End targets)) w counts = tt
+any_owners wide (phase.Cancel next) w counts = tt
+any_owners wide (phase.Survey next) w counts = tt
 
 -- a step of any machine that goes on with a call
 pub step-falls : (shape : Layout) (valid : IsShape shape) (m next : Machine) (pass : ℕ) → Steps shape m pass Go next
     → left_of shape widest next pass < left_of shape widest m pass
 step-falls shape valid m next pass step =
-    step_by-falls shape widest m next pass step (λ coll. width_low shape coll valid) (widest_owners step.local.stand.phase (row_shows shape step.offered.op m.row))
+    step_by-falls shape widest m next pass step (λ coll. width_low shape coll valid) (any_owners widest step.local.stand.phase (row_shows shape step.offered.op m.row) (λ coll owner is. omega arith))

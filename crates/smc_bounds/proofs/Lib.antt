@@ -1,0 +1,4 @@
+pub mod EnterLaws
+pub mod StartLaws
+pub mod KeptLaws
+pub mod BoundLaws
