@@ -38,26 +38,26 @@ module _ (shape : Layout) (valid : IsShape shape) (pass : ℕ) where
   left l = steps_left shape (width_of shape) l.stand.section l.stand.phase
 
   -- the pass has taken its steps, and what its call has left, within so many
-  record Under (m : Machine) (bound : ℕ) : Type 0 where
+  pub record Under (m : Machine) (bound : ℕ) : Type 0 where
     local : Local
     here : slice_get m.locals pass ≡ Some local
     under : local.steps + left local ≤ bound
 
   -- all that is known of a machine
-  abbrev Known : Machine → Type 0
+  abbrev pub Known : Machine → Type 0
   Known m = Backed shape anywhere (Kept shape) m.row m.locals
 
-  known-step : (m next : Machine) (who : ℕ) (choice : Choice) → Known m → Steps shape m who choice next → Known next
+  pub known-step : (m next : Machine) (who : ℕ) (choice : Choice) → Known m → Steps shape m who choice next → Known next
   known-step m next who choice b step = backed_step shape anywhere valid (Kept shape) (kept-kept shape valid) m who choice next b step
 
   -- a step of another pass leaves this one
-  left_alone : (m next : Machine) (who : ℕ) (choice : Choice) → Steps shape m who choice next → (who == pass) ≡ false → slice_get next.locals pass ≡ slice_get m.locals pass
+  pub left_alone : (m next : Machine) (who : ℕ) (choice : Choice) → Steps shape m who choice next → (who == pass) ≡ false → slice_get next.locals pass ≡ slice_get m.locals pass
   left_alone m next who choice step other =
       ap (λ (k : Machine). slice_get k.locals pass) step.leads
       ∙ get-set_other m.locals who pass _ (λ e. absurd (eqb-false who pass other (sym e)))
 
   -- what an own step leaves of this one
-  own_after : (m next : Machine) (choice : Choice) (step : Steps shape m pass choice next)
+  pub own_after : (m next : Machine) (choice : Choice) (step : Steps shape m pass choice next)
       → slice_get next.locals pass ≡ Some (after shape pass step.local choice step.told (row_shows shape step.offered.op m.row))
   own_after m next choice step = ap (λ (k : Machine). slice_get k.locals pass) step.leads ∙ get-set_same m.locals pass step.local _ step.here
 
@@ -167,7 +167,7 @@ module _ (shape : Layout) (valid : IsShape shape) (pass : ℕ) where
       let same : u.local ≡ now = some-same u.local now (sym u.here ∙ here) in
       let under : now.steps + left now ≤ first.steps + most = omega (arith, u.under, ap (λ (k : Local). k.steps) same, ap left same) in
       let within : pass < shape.passes = omega (arith, slice_get_within m.locals pass now here, b.backs.count) in
-      let enters : Enters now.stand.section now.stand.phase = subst (λ (s : Stand). Enters s.section s.phase) (b.backs.same pass now here) (b.rule.enters pass within) in
+      let enters : Enters now.stand.section now.stand.phase = subst (λ (s : Stand). Enters s.section s.phase) (b.backs.same pass now here) (b.rule.each pass within).enters in
       record {
         few = omega (arith, under);
         ends = elim (idle_or_offered now.stand now.stand.section now.stand.phase enters) [

@@ -33,21 +33,30 @@ use Rattle.smc_inv_range.proofs.ReachLaws.{ranges_kept}
 use Rattle.smc_inv_range.proofs.StepLaws.{first_in, suits_first}
 use Rattle.smc_inv_bound.specs.Left.{CountsOwner, CountsOwners}
 use Rattle.smc_inv_bound.proofs.StepLaws.{any_owners}
-use Rattle.smc_bounds.specs.Kept.{Enters, Kept}
+use Rattle.smc_bounds.specs.Kept.{Kept, KeptBy}
 use Rattle.smc_bounds.proofs.EnterLaws.{step-enters}
+use Rattle.smc_bounds.proofs.HomeLaws.{step-below, step-home}
 
 module _ (shape : Layout) (valid : IsShape shape) where
+  -- a step of the pass itself keeps what is said of it
+  step-kept : (pass : ℕ) (stand : Stand) (choice : Choice) (told : ℕ) (w : Word) → KeptBy pass stand → KeptBy pass (stand_then shape pass stand choice told w)
+  step-kept pass stand choice told w h = record {
+    enters = step-enters shape pass stand choice told w;
+    home = step-home shape pass stand choice told w h.home;
+    below = step-below shape pass stand stand.section stand.phase choice w h.below;
+  }
+
   -- each step keeps it
   pub kept-kept : IsKept shape anywhere (Kept shape)
   kept-kept = record {
     fits = λ s pass choice o within h offers there. (ranges_kept shape valid).fits s pass choice o within h.ranges offers there;
     kept = λ s pass choice o told w within h offers shows. record {
       ranges = (ranges_kept shape valid).kept s pass choice o told w within h.ranges offers shows;
-      enters = λ i lt.
+      each = λ i lt.
           let next : Stand = stand_then shape pass (s.stands pass) choice told w in
           by_pass i pass
-          (λ e. subst (λ (k : Stand). Enters k.section k.phase) (sym (put_stand-same s.stands pass i next e)) (step-enters shape pass (s.stands pass) choice told w))
-          (λ ne. subst (λ (k : Stand). Enters k.section k.phase) (sym (put_stand-other s.stands pass i next ne)) (h.enters i lt));
+          (λ e. subst (KeptBy i) (sym (put_stand-same s.stands pass i next e)) (subst (λ (k : ℕ). KeptBy k next) (sym e) (step-kept pass (s.stands pass) choice told w (h.each pass within))))
+          (λ ne. subst (KeptBy i) (sym (put_stand-other s.stands pass i next ne)) (h.each i lt));
     };
   }
 
@@ -55,7 +64,7 @@ module _ (shape : Layout) (valid : IsShape shape) where
       → Backed shape anywhere (Kept shape) row locals
   kept-reached opening start row locals opens opened reached =
       carried shape anywhere valid (Kept shape) kept-kept opening start row locals (λ there u. suits_first shape valid opening opens there)
-      (record { ranges = first_in shape valid opening opens; enters = λ i lt. tt }) opened reached
+      (record { ranges = first_in shape valid opening opens; each = λ i lt. record { enters = tt; home = tt; below = tt } }) opened reached
 
   -- an owner that a word of the region names is of the word's own collection
   home_counts : (coll slot : ℕ) (w : Word) → InWord shape (place.Back coll slot) w → CountsOwner (width_of shape) coll w
