@@ -1,6 +1,6 @@
 -- A call that is started and gone on with stays within its bound.
-use Rattle.std.proofs.Common.{◌≡◌, ◌≢◌, ℕ, zero, suc, ◌+◌, ◌<◌, ◌≤◌, ◌==◌, Bool, true, false, Option, Some, None, List, [], ◌∷◌, refl, sym, subst, ap, ◌∙◌, inl, inr, arith}
-use Rattle.std.specs.Prelude.{◌⊎◌, IsTrue, is_some, replicate, slice_get, slice_set, if◌then◌else◌}
+use Rattle.std.proofs.Common.{◌≡◌, ℕ, zero, suc, ◌+◌, ◌<◌, ◌≤◌, ◌==◌, Bool, true, false, Option, Some, None, List, [], ◌∷◌, refl, sym, subst, ap, ◌∙◌, inl, inr, arith}
+use Rattle.std.specs.Prelude.{◌⊎◌, IsTrue, is_some, replicate, slice_get, if◌then◌else◌}
 use Rattle.std.proofs.lemmas.Bool.{eqb-true, eqb-false}
 use Rattle.std.proofs.lemmas.Option.{slice_get_within}
 use Rattle.smc_shape.specs.Layout.{Layout, IsShape, width_of}
@@ -8,26 +8,24 @@ use Rattle.smc_core.specs.declared.call.Call.{Call}
 use Rattle.smc_core.specs.declared.call.Choice.{Choice}
 use Rattle.smc_core.specs.declared.call.Choice.TheVariants.{Start, Go}
 use Rattle.smc_core.specs.declared.local.Local.{Local}
-use Rattle.smc_core.specs.declared.local.Opening.{Opening}
 use Rattle.smc_core.specs.declared.local.Stand.{Stand}
 use Rattle.smc_core.specs.declared.op.Offer.{Offer}
 use Rattle.smc_core.specs.declared.phase.Phase.{Phase}
 use Rattle.smc_core.specs.declared.phase.Phase.TheVariants as phase
 use Rattle.smc_core.specs.declared.section.Section.{Section}
 use Rattle.smc_core.specs.declared.section.Section.TheVariants.{Outside, Loaded, Announced, Again, Lasting, Inside}
-use Rattle.smc_core.specs.declared.word.Word.{Word}
 use Rattle.smc_core.specs.declared.word.Word.TheVariants as word
 use Rattle.smc_core.specs.Local.{after}
-use Rattle.smc_core.specs.Machine.{IsOpened, IsOpening, Leads, Machine, Reach, Steps, local_offer}
+use Rattle.smc_core.specs.Machine.{Leads, Machine, Steps}
 use Rattle.smc_core.specs.Offer.{go_offer}
 use Rattle.smc_core.specs.Row.{row_shows}
 use Rattle.smc_rules.specs.Mirror.{anywhere}
 use Rattle.smc_rules.specs.State.{Backed}
 use Rattle.smc_rules.proofs.CarryLaws.{along, backed_step, get-set_other, get-set_same, some-same}
 use Rattle.smc_inv_range.specs.Calls.{InOwned}
-use Rattle.smc_inv_bound.specs.Left.{CountsOwner, steps_left}
+use Rattle.smc_inv_bound.specs.Left.{steps_left}
 use Rattle.smc_inv_bound.proofs.StepLaws.{any_owners, go-falls}
-use Rattle.smc_bounds.specs.Bounds.{IsWithin, most_steps, own_choices}
+use Rattle.smc_bounds.specs.Bounds.{CallsAreBounded, IsWithin, most_steps, own_choices}
 use Rattle.smc_bounds.specs.Kept.{Enters, Kept}
 use Rattle.smc_bounds.proofs.KeptLaws.{kept-kept, kept-reached, owners_shown}
 use Rattle.smc_bounds.proofs.StartLaws.{by_width, started-fits}
@@ -69,8 +67,13 @@ module _ (shape : Layout) (valid : IsShape shape) (pass : ℕ) where
       record {
         local = after shape pass l Go step.told (row_shows shape step.offered.op m.row);
         here = own_after m next Go step;
-        under = omega (arith, u.under, ap (λ (k : Local). k.steps) same, ap left same,
-            go-falls shape (width_of shape) pass l.stand l.stand.section l.stand.phase step.offered (row_shows shape step.offered.op m.row) (by_width shape) (owners_shown shape valid m next pass step b) step.offers);
+        under = omega (
+          arith,
+          u.under,
+          ap (λ (k : Local). k.steps) same,
+          ap left same,
+          go-falls shape (width_of shape) pass l.stand l.stand.section l.stand.phase step.offered (row_shows shape step.offered.op m.row) (by_width shape) (owners_shown shape valid m next pass step b) step.offers,
+        );
       }
 
   under-other : (m next : Machine) (bound who : ℕ) (choice : Choice) → Steps shape m who choice next → (who == pass) ≡ false → Under m bound → Under next bound
@@ -107,8 +110,12 @@ module _ (shape : Layout) (valid : IsShape shape) (pass : ℕ) where
       record {
         local = after shape pass l (Start k) step.told (row_shows shape step.offered.op m.row);
         here = own_after m next (Start k) step;
-        under = omega (arith, ap (λ (k : Local). k.steps) same, ap (λ (one : Local). most_steps shape one.stand k) same,
-            started-fits shape valid pass l.stand round l.stand.section l.stand.phase k step.offered step.told (row_shows shape step.offered.op m.row) step.offers);
+        under = omega (
+          arith,
+          ap (λ (k : Local). k.steps) same,
+          ap (λ (one : Local). most_steps shape one.stand k) same,
+          started-fits shape valid pass l.stand round l.stand.section l.stand.phase k step.offered step.told (row_shows shape step.offered.op m.row) step.offers,
+        );
       }
 
   -- a call that is started, and gone on with
@@ -177,11 +184,7 @@ module _ (shape : Layout) (valid : IsShape shape) (pass : ℕ) where
       }
 
 -- in every state that steps reach
-pub calls-bounded : (shape : Layout) (opening : Opening) (start : List ℕ) (m last : Machine) (steps : List (ℕ × Choice)) (pass more : ℕ) (started : Call) (first now : Local)
-    → IsShape shape → IsOpening opening → IsOpened shape opening start → Reach shape start m.row m.locals
-    → Leads shape m steps last → own_choices pass steps ≡ Start started ∷ replicate more Go
-    → slice_get m.locals pass ≡ Some first → slice_get last.locals pass ≡ Some now
-    → IsWithin shape pass first now (most_steps shape first.stand started)
+pub calls-bounded : CallsAreBounded
 calls-bounded shape opening start m last steps pass more started first now valid opens opened reached leads own here there =
     let b : Backed shape anywhere (Kept shape) m.row m.locals = kept-reached shape valid opening start m.row m.locals opens opened reached in
     within-bound shape valid pass last first now (most_steps shape first.stand started) (along shape anywhere valid (Kept shape) (kept-kept shape valid) m steps last b leads) there

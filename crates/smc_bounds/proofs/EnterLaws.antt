@@ -1,7 +1,5 @@
 -- An enter in progress has a section to go on with, after each step.
-use Rattle.std.proofs.Common.{◌≡◌, ℕ, ◌+◌, ◌==◌, ◌||◌, Bool, true, false, Option, Some, None, List, refl, sym, subst, ap, ◌∙◌, arith}
-use Rattle.std.specs.Prelude.{IsTrue, IsFalse, is_some}
-use Rattle.std.proofs.lemmas.Bool.{cond_both}
+use Rattle.std.proofs.Common.{◌≡◌, ℕ, Bool, true, false, Option, List, refl, arith}
 use Rattle.smc_words.specs.declared.number.Number.{Number}
 use Rattle.smc_words.specs.declared.dir.Dir.{Dir}
 use Rattle.smc_words.specs.declared.round.RoundWord.{RoundWord}
@@ -11,7 +9,6 @@ use Rattle.smc_core.specs.declared.call.Call.TheVariants as call
 use Rattle.smc_core.specs.declared.call.Choice.{Choice}
 use Rattle.smc_core.specs.declared.call.Choice.TheVariants.{Start, Go}
 use Rattle.smc_core.specs.declared.change.Change.{Change}
-use Rattle.smc_core.specs.declared.done.Done.TheVariants as done
 use Rattle.smc_core.specs.declared.local.Owned.{Owned}
 use Rattle.smc_core.specs.declared.local.Scan.{Scan}
 use Rattle.smc_core.specs.declared.local.Stand.{Stand}
@@ -41,7 +38,7 @@ use Rattle.smc_core.specs.Local.{section_after}
 use Rattle.smc_core.specs.Look.{look_change, look_finding, looking_change, seeker_of, sought_number}
 use Rattle.smc_core.specs.Remove.{remove_change}
 use Rattle.smc_core.specs.Scan.{scan_change}
-use Rattle.smc_core.specs.Section.{entering_change, entering_section, entering_offer, epoch_of}
+use Rattle.smc_core.specs.Section.{epoch_of}
 use Rattle.smc_core.specs.Words.{plain_of, dir_of}
 use Rattle.smc_bounds.specs.Kept.{Enters}
 

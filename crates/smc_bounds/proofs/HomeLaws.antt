@@ -1,5 +1,5 @@
 -- A scan stays at slots of its own collection, and its number below the next one, after each step.
-use Rattle.std.proofs.Common.{◌≡◌, ◌≢◌, ℕ, ◌+◌, ◌*◌, ◌<◌, ◌≤◌, ◌==◌, Bool, true, false, nat_lt, Option, Some, None, List, refl, sym, subst, ap, arith}
+use Rattle.std.proofs.Common.{◌≡◌, ◌≢◌, ℕ, ◌+◌, ◌==◌, Bool, true, false, nat_lt, Option, Some, None, List, refl, sym, subst, arith}
 use Rattle.std.specs.Prelude.{if◌then◌else◌}
 use Rattle.std.proofs.lemmas.Bool.{cond_both, eqb-true}
 use Rattle.smc_words.specs.declared.number.Number.{Number}
@@ -25,7 +25,6 @@ use Rattle.smc_core.specs.declared.phase.objects.AddPhase.{AddPhase}
 use Rattle.smc_core.specs.declared.phase.objects.Finding.{Finding}
 use Rattle.smc_core.specs.declared.phase.objects.Finding.TheVariants.{Absent, Stays, Abandons, Helps}
 use Rattle.smc_core.specs.declared.phase.objects.LookPhase.{LookPhase}
-use Rattle.smc_core.specs.declared.phase.objects.LookPhase.TheVariants as look
 use Rattle.smc_core.specs.declared.phase.objects.RemovePhase.{RemovePhase}
 use Rattle.smc_core.specs.declared.phase.objects.ScanPhase.{ScanPhase}
 use Rattle.smc_core.specs.declared.phase.objects.ScanPhase.TheVariants as scan
@@ -44,10 +43,10 @@ use Rattle.smc_core.specs.Finish.{finish_change}
 use Rattle.smc_core.specs.Local.{begun_after, next_after, scans_after}
 use Rattle.smc_core.specs.Look.{look_change, look_finding, looking_change, passes, seeker_of, sought_number, visits}
 use Rattle.smc_core.specs.Remove.{remove_change}
-use Rattle.smc_core.specs.Scan.{ended, is_over, is_scanned, look_scans, new_scan, next_scans, owner_seen, passed, scan_change, scan_number, scan_of, scan_scans}
+use Rattle.smc_core.specs.Scan.{is_over, is_scanned, look_scans, new_scan, passed, scan_change, scan_number, scan_of, scan_scans}
 use Rattle.smc_core.specs.Section.{entering_change, epoch_of, is_calm}
 use Rattle.smc_core.specs.Step.{ends, goes}
-use Rattle.smc_core.specs.Words.{back_of, dir_of, plain_of}
+use Rattle.smc_core.specs.Words.{dir_of, plain_of}
 use Rattle.smc_bounds.specs.Kept.{AreBelow, OfColl, ScansHome, SeeksHome}
 use Rattle.smc_bounds.specs.Scans.{is_of, seeks_for}
 use Rattle.smc_bounds.proofs.ScanLists.{below-begun, below-ended, below-more, below-passed, found-number, passed-home}

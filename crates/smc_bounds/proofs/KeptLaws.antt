@@ -1,6 +1,5 @@
 -- What each pass keeps holds after every list of steps.
-use Rattle.std.proofs.Common.{◌≡◌, ◌≢◌, ℕ, ◌<◌, ◌≤◌, Option, Some, None, List, refl, sym, subst, ap, ◌∙◌, arith}
-use Rattle.smc_words.specs.declared.number.Number.{Number}
+use Rattle.std.proofs.Common.{◌≡◌, ℕ, ◌<◌, ◌≤◌, Some, List, refl, sym, subst, ap, ◌∙◌, arith}
 use Rattle.smc_shape.specs.Layout.{Layout, IsShape, width_of}
 use Rattle.smc_shape.specs.declared.place.Place.TheVariants as place
 use Rattle.smc_core.specs.declared.call.Choice.{Choice}
@@ -18,13 +17,11 @@ use Rattle.smc_core.specs.declared.word.Word.{Word}
 use Rattle.smc_core.specs.Machine.{Machine, IsOpening, IsOpened, Reach, Steps}
 use Rattle.smc_core.specs.Offer.{go_offer}
 use Rattle.smc_core.specs.Row.{row_shows}
-use Rattle.smc_core.specs.Words.{back_of}
 use Rattle.smc_rules.specs.Memory.{Memory, seen}
 use Rattle.smc_rules.specs.Mirror.{IsMirrored, anywhere}
-use Rattle.smc_rules.specs.State.{State, Backed, IsKept, first_state, put_stand, stand_offer, stand_then, state_after}
+use Rattle.smc_rules.specs.State.{Backed, IsKept, stand_offer, stand_then}
 use Rattle.smc_rules.proofs.CarryLaws.{by_pass, carried, put_stand-other, put_stand-same, some-same}
 use Rattle.smc_rules.proofs.MirrorLaws.{mirrored}
-use Rattle.std.specs.Prelude.{slice_get}
 use Rattle.std.proofs.lemmas.Option.{slice_get_within}
 use Rattle.smc_inv_range.specs.Calls.{InPhase}
 use Rattle.smc_inv_range.specs.Ranges.{InMemory, InWord, IsNumberOf}
@@ -32,7 +29,6 @@ use Rattle.smc_inv_range.proofs.Memories.{InBack, back_in}
 use Rattle.smc_inv_range.proofs.ReachLaws.{ranges_kept}
 use Rattle.smc_inv_range.proofs.StepLaws.{first_in, suits_first}
 use Rattle.smc_inv_bound.specs.Left.{CountsOwner, CountsOwners}
-use Rattle.smc_inv_bound.proofs.StepLaws.{any_owners}
 use Rattle.smc_bounds.specs.Kept.{Kept, KeptBy}
 use Rattle.smc_bounds.proofs.EnterLaws.{step-enters}
 use Rattle.smc_bounds.proofs.HomeLaws.{step-below, step-home}

@@ -7,13 +7,11 @@ use Rattle.smc_words.specs.declared.number.Number.{Number}
 use Rattle.smc_shape.specs.Layout.{Layout, slots_of, width_of}
 use Rattle.smc_core.specs.declared.call.Call.{Call}
 use Rattle.smc_core.specs.declared.call.Call.TheVariants as call
-use Rattle.smc_core.specs.declared.call.Choice.{Choice}
 use Rattle.smc_core.specs.declared.call.Choice.TheVariants.{Start, Go}
 use Rattle.smc_core.specs.declared.change.Change.{Change}
 use Rattle.smc_core.specs.declared.done.Done.TheVariants as done
 use Rattle.smc_core.specs.declared.local.Scan.{Scan}
 use Rattle.smc_core.specs.declared.local.Stand.{Stand}
-use Rattle.smc_core.specs.declared.op.Offer.{Offer}
 use Rattle.smc_core.specs.declared.phase.Phase.{Phase}
 use Rattle.smc_core.specs.declared.phase.Phase.TheVariants as phase
 use Rattle.smc_core.specs.declared.phase.objects.CopyPhase.TheVariants as copy
@@ -32,17 +30,16 @@ use Rattle.smc_core.specs.Change.{go_change, next_started, start_change}
 use Rattle.smc_core.specs.Count.{counting}
 use Rattle.smc_core.specs.Local.{next_after, scans_after, section_after}
 use Rattle.smc_core.specs.Look.{look_change, look_finding, passes, seeker_of, sought_number, visits}
-use Rattle.smc_core.specs.Offer.{go_offer}
 use Rattle.smc_core.specs.Scan.{ended, is_over, is_scanned, look_scans, new_scan, passed, scan_change, scan_number, scan_of, scan_scans}
 use Rattle.smc_core.specs.Section.{epoch_of, is_calm}
 use Rattle.smc_core.specs.Step.{ends, goes}
 use Rattle.smc_core.specs.Words.{dir_of, plain_of}
-use Rattle.smc_inv_bound.specs.Left.{CountsOwners, look_left, scan_rest, seeker_left, slots_behind, steps_left}
+use Rattle.smc_inv_bound.specs.Left.{CountsOwners, look_left, scan_rest, seeker_left, steps_left}
 use Rattle.smc_inv_bound.proofs.CallLaws.{looking-falls, passes-falls, scan-falls}
 use Rattle.smc_bounds.specs.Bounds.{scan_steps}
 use Rattle.smc_bounds.specs.Kept.{OfColl, ScansHome, SeeksHome}
 use Rattle.smc_bounds.specs.Scans.{is_of, is_open, is_scan_step, seeks_for, stored_left, whole_left}
-use Rattle.smc_bounds.proofs.HomeLaws.{add-plain, begin-plain, both, cancel-plain, entering-plain, finish-plain, looking-plain, of_none, ready_seen-plain, remove-plain, section_seen-plain, start-plain, survey-plain}
+use Rattle.smc_bounds.proofs.HomeLaws.{add-plain, begin-plain, both, cancel-plain, entering-plain, finish-plain, of_none, ready_seen-plain, remove-plain, section_seen-plain, start-plain, survey-plain}
 use Rattle.smc_bounds.proofs.ScanLists.{begun-other, closed, ended-other, ended-same, found-number, passed-other, passed-same, placed}
 use Rattle.smc_bounds.proofs.StartLaws.{by_width}
 
@@ -164,8 +161,14 @@ module _ (shape : Layout) (k : ℕ) where
           → whole_left shape k section phase.Idle (passed scans j (place + 1)) + (if is_of k (phase.Look next) then 1 else 0) ≤ whole_left shape k section (phase.Look next) scans
       met true t =
           let same : j ≡ k = eqb-true j k t in
-          omega (arith, in_call section (phase.Look next) scans (is_p ∙ t), more, ap {B = ℕ} (λ (b : Bool). if b then 1 else 0) (is_p ∙ t), ap (λ (i : ℕ). stored_left shape (scan_of (passed scans i (place + 1)) k)) same,
-          passed-left scans coll place (subst (λ (i : ℕ). OfColl coll (scan_of scans i)) same home))
+          omega (
+            arith,
+            in_call section (phase.Look next) scans (is_p ∙ t),
+            more,
+            ap {B = ℕ} (λ (b : Bool). if b then 1 else 0) (is_p ∙ t),
+            ap (λ (i : ℕ). stored_left shape (scan_of (passed scans i (place + 1)) k)) same,
+            passed-left scans coll place (subst (λ (i : ℕ). OfColl coll (scan_of scans i)) same home),
+          )
       met false f =
           omega (arith, still section section (phase.Look next) phase.Idle scans (passed scans j (place + 1)) (is_p ∙ f) refl (passed-other scans j (place + 1) k f), ap {B = ℕ} (λ (b : Bool). if b then 1 else 0) (is_p ∙ f))
 
@@ -242,9 +245,13 @@ module _ (shape : Layout) (k : ℕ) where
       let one : slots_of shape begun.coll - begun.place ≡ slots_of shape begun.coll - (begun.place + 1) + 1 = omega (arith, at) in
       let of : is_of k (scan_change shape (scan.Directory begun.number begun.coll begun.place) w).phase ≡ true =
       directory-of begun.number begun.coll begun.place w ∙ eq-eqb begun.number k same in
-      omega (arith, in_call section _ (scan_scans scans (scan.Directory begun.number begun.coll begun.place) w) of,
-      scan-falls shape (width_of shape) (by_width shape) (scan.Directory begun.number begun.coll begun.place) w tt section,
-      ap (λ (i : ℕ). i * width_of shape begun.coll) one, one)
+      omega (
+        arith,
+        in_call section _ (scan_scans scans (scan.Directory begun.number begun.coll begun.place) w) of,
+        scan-falls shape (width_of shape) (by_width shape) (scan.Directory begun.number begun.coll begun.place) w tt section,
+        ap (λ (i : ℕ). i * width_of shape begun.coll) one,
+        one,
+      )
 
   -- and by whether it has ended
   next_same-whole : (section : Section) (scans : List Scan) (begun : Scan) (w : Word) → scan_of scans k ≡ Some begun → begun.number ≡ k
@@ -293,8 +300,11 @@ module _ (shape : Layout) (k : ℕ) where
       + (if is_scan_step k stand (Start one) then 1 else 0) ≤ stored_left shape (scan_of stand.scans k)
   start-whole pass stand section next (call.Next number) told w before = next-whole section stand.scans number w (scan_of stand.scans number) refl
   start-whole pass stand section next (call.Scan coll) told w before =
-      omega (arith, still section section phase.Idle phase.Idle stand.scans (stand.scans ++ new_scan (scan_number pass stand.begun) coll ∷ []) refl refl
-      (begun-other stand.scans (new_scan (scan_number pass stand.begun) coll) k (ne_eqb (scan_number pass stand.begun) k (λ e. absurd (omega (arith, e, before))))))
+      omega (
+        arith,
+        still section section phase.Idle phase.Idle stand.scans (stand.scans ++ new_scan (scan_number pass stand.begun) coll ∷ []) refl refl
+            (begun-other stand.scans (new_scan (scan_number pass stand.begun) coll) k (ne_eqb (scan_number pass stand.begun) k (λ e. absurd (omega (arith, e, before))))),
+      )
   start-whole pass stand section next call.Leave told w before = omega arith
   start-whole pass stand section next call.Enter told w before = omega arith
   start-whole pass stand section next call.Advance told w before = omega (arith, plain-whole pass stand section section call.Advance told w (λ number e. absurd (cc)))

@@ -1,17 +1,15 @@
 -- The first step of a call is one of those that it may take.
-use Rattle.std.proofs.Common.{◌≡◌, ℕ, ◌+◌, ◌-◌, ◌*◌, ◌<◌, ◌≤◌, ◌==◌, ◌&&◌, ◌||◌, Bool, true, false, nat_lt, Option, Some, None, List, length, refl, sym, subst, ap, ◌∙◌, arith}
-use Rattle.std.specs.Prelude.{IfSome, IsTrue, not, if◌then◌else◌}
+use Rattle.std.proofs.Common.{◌≡◌, ℕ, ◌+◌, ◌-◌, ◌*◌, ◌<◌, ◌==◌, ◌&&◌, Bool, true, false, nat_lt, Option, Some, None, length, sym, subst, ap, arith}
+use Rattle.std.specs.Prelude.{IfSome, if◌then◌else◌}
 use Rattle.std.proofs.lemmas.Bool.{cond_both, ltb-true}
 use Rattle.std.proofs.lemmas.Bool.Decides.{nat_tests}
-use Rattle.smc_words.specs.declared.number.Number.{Number}
 use Rattle.smc_words.specs.declared.round.RoundWord.{RoundWord}
-use Rattle.smc_shape.specs.Layout.{Layout, IsShape, slots_of, entries_of, width_of}
+use Rattle.smc_shape.specs.Layout.{Layout, IsShape, slots_of, width_of}
 use Rattle.smc_shape.specs.declared.place.Place.TheVariants as place
 use Rattle.smc_model.specs.declared.event.Event.TheVariants as event
 use Rattle.smc_core.specs.declared.call.Call.{Call}
 use Rattle.smc_core.specs.declared.call.Call.TheVariants as call
-use Rattle.smc_core.specs.declared.call.Choice.{Choice}
-use Rattle.smc_core.specs.declared.call.Choice.TheVariants.{Start, Go}
+use Rattle.smc_core.specs.declared.call.Choice.TheVariants.{Start}
 use Rattle.smc_core.specs.declared.change.Change.{Change}
 use Rattle.smc_core.specs.declared.done.Done.TheVariants as done
 use Rattle.smc_core.specs.declared.local.Owned.{Owned}
@@ -30,7 +28,6 @@ use Rattle.smc_core.specs.declared.phase.objects.ScanPhase.TheVariants as scan
 use Rattle.smc_core.specs.declared.phase.objects.Seeker.TheVariants as seeker
 use Rattle.smc_core.specs.declared.section.Section.{Section}
 use Rattle.smc_core.specs.declared.section.TheConstants.{LAST_EPOCH}
-use Rattle.smc_core.specs.declared.word.State.{State}
 use Rattle.smc_core.specs.declared.word.Word.{Word}
 use Rattle.smc_core.specs.Add.{is_value, next_slot, takes}
 use Rattle.smc_core.specs.Begin.{round_seen}
@@ -40,7 +37,6 @@ use Rattle.smc_core.specs.Finish.{finish_change, first_target, is_early}
 use Rattle.smc_core.specs.Local.{section_after}
 use Rattle.smc_core.specs.Look.{looking_change}
 use Rattle.smc_core.specs.Offer.{held_slot, offer, start_offer}
-use Rattle.smc_core.specs.Remove.{mark_seen}
 use Rattle.smc_core.specs.Ripe.{is_ripe_slot}
 use Rattle.smc_core.specs.Row.{has_place}
 use Rattle.smc_core.specs.Scan.{is_over, scan_change, scan_of}
@@ -80,8 +76,12 @@ module _ (shape : Layout) (valid : IsShape shape) (pass : ℕ) (stand : Stand) (
       (λ (c : Change). steps_left shape (width_of shape) section c.phase < scan_steps shape begun) (λ t. omega arith)
       (λ u. let at : begun.place < slots_of shape begun.coll = grind (arith, nat_tests, u) in
       let one : slots_of shape begun.coll - begun.place ≡ slots_of shape begun.coll - (begun.place + 1) + 1 = omega (arith, at) in
-      omega (arith, scan-falls shape (width_of shape) (by_width shape) (scan.Directory begun.number begun.coll begun.place) w tt section,
-      ap (λ (k : ℕ). k * width_of shape begun.coll) one, one)))
+      omega (
+        arith,
+        scan-falls shape (width_of shape) (by_width shape) (scan.Directory begun.number begun.coll begun.place) w tt section,
+        ap (λ (k : ℕ). k * width_of shape begun.coll) one,
+        one,
+      )))
 
   round_seen-fits : (section : Section) (coll : ℕ) (seen : Option RoundWord) → coll < length shape.colls
       → steps_left shape (width_of shape) section (round_seen coll seen).phase < most_steps shape stand (call.Begin coll)
@@ -93,8 +93,12 @@ module _ (shape : Layout) (valid : IsShape shape) (pass : ℕ) (stand : Stand) (
   finish-fits section owned w lt =
       cond_both (is_early (epoch_of section) owned.bound) (ends (done.Early (epoch_of section) owned.bound)) (finish_change shape (finish.Directory (first_target owned.coll)) w)
       (λ (c : Change). steps_left shape (width_of shape) section c.phase < finish_steps shape (Some owned)) (λ t. omega arith)
-      (λ n. omega (arith, finish-falls shape (width_of shape) (by_width shape) section (finish.Directory (first_target owned.coll)) w tt,
-      ap (λ (k : ℕ). k * width_of shape owned.coll) (first_behind owned.coll lt), first_behind owned.coll lt))
+      (λ n. omega (
+        arith,
+        finish-falls shape (width_of shape) (by_width shape) section (finish.Directory (first_target owned.coll)) w tt,
+        ap (λ (k : ℕ). k * width_of shape owned.coll) (first_behind owned.coll lt),
+        first_behind owned.coll lt,
+      ))
 
   cancel-fits : (section : Section) (owned : Owned) (w : Word) → owned.coll < length shape.colls
       → steps_left shape (width_of shape) section (cancel_owned shape (Some owned) w).phase < cancel_steps shape (Some owned)

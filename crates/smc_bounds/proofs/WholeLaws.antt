@@ -1,33 +1,28 @@
 -- A scan takes no more steps than it has left when it has begun.
-use Rattle.std.proofs.Common.{◌≡◌, ◌≢◌, ℕ, ◌+◌, ◌-◌, ◌*◌, ◌<◌, ◌≤◌, ◌==◌, Bool, true, false, Option, Some, None, List, [], ◌∷◌, ◌++◌, refl, sym, subst, ap, ◌∙◌, arith}
-use Rattle.std.specs.Prelude.{IfSome, slice_get, if◌then◌else◌}
+use Rattle.std.proofs.Common.{◌≡◌, ℕ, ◌+◌, ◌-◌, ◌*◌, ◌<◌, ◌≤◌, ◌==◌, Bool, true, false, Option, Some, None, List, [], ◌∷◌, ◌++◌, refl, sym, subst, ap, ◌∙◌, arith}
+use Rattle.std.specs.Prelude.{slice_get, if◌then◌else◌}
 use Rattle.std.proofs.lemmas.Bool.{eq-eqb, eqb-true}
 use Rattle.std.proofs.lemmas.Option.{slice_get_within}
-use Rattle.smc_words.specs.declared.layout.TheConstants.{PASSES}
 use Rattle.smc_shape.specs.Layout.{Layout, IsShape, slots_of, width_of}
 use Rattle.smc_core.specs.declared.call.Call.{Call}
 use Rattle.smc_core.specs.declared.call.Call.TheVariants as call
 use Rattle.smc_core.specs.declared.call.Choice.{Choice}
 use Rattle.smc_core.specs.declared.call.Choice.TheVariants.{Start, Go}
 use Rattle.smc_core.specs.declared.local.Local.{Local}
-use Rattle.smc_core.specs.declared.local.Opening.{Opening}
 use Rattle.smc_core.specs.declared.local.Scan.{Scan}
 use Rattle.smc_core.specs.declared.local.Stand.{Stand}
 use Rattle.smc_core.specs.declared.op.Offer.{Offer}
 use Rattle.smc_core.specs.declared.phase.Phase.{Phase}
 use Rattle.smc_core.specs.declared.phase.Phase.TheVariants as phase
 use Rattle.smc_core.specs.declared.section.Section.{Section}
-use Rattle.smc_core.specs.declared.word.Word.{Word}
 use Rattle.smc_core.specs.Local.{after, begun_after}
-use Rattle.smc_core.specs.Machine.{IsOpened, IsOpening, Leads, Machine, Reach, Steps, local_offer}
-use Rattle.smc_core.specs.Offer.{offer, start_offer, when_idle}
+use Rattle.smc_core.specs.Machine.{Leads, Machine, Steps}
+use Rattle.smc_core.specs.Offer.{offer}
 use Rattle.smc_core.specs.Row.{row_shows}
 use Rattle.smc_core.specs.Scan.{new_scan, scan_number, scan_of}
-use Rattle.smc_rules.specs.State.{Backed}
 use Rattle.smc_rules.proofs.CarryLaws.{some-same}
-use Rattle.smc_bounds.specs.Bounds.{scan_steps}
-use Rattle.smc_bounds.specs.Kept.{Kept, KeptBy, ScansHome}
-use Rattle.smc_bounds.specs.Scans.{is_of, is_scan_step, one_step, steps_taken, stored_left, whole_left}
+use Rattle.smc_bounds.specs.Kept.{KeptBy}
+use Rattle.smc_bounds.specs.Scans.{ScansAreBounded, is_scan_step, one_step, steps_taken, stored_left, whole_left}
 use Rattle.smc_bounds.proofs.BoundLaws.{Known, known-step, left_alone, own_after}
 use Rattle.smc_bounds.proofs.KeptLaws.{kept-reached, owners_shown}
 use Rattle.smc_bounds.proofs.ScanLaws.{go-whole, start-whole}
@@ -63,8 +58,11 @@ module _ (shape : Layout) (valid : IsShape shape) (pass k : ℕ) where
   own-whole m next (Start one) b step before =
       let stand : Stand = step.local.stand in
       let idle : stand.phase ≡ phase.Idle = started_idle shape pass stand stand.section stand.phase one step.offered step.offers in
-      omega (arith, start-whole shape k pass stand stand.section stand.phase one step.told (row_shows shape step.offered.op m.row) before,
-      ap (λ (p : Phase). whole_left shape k stand.section p stand.scans) idle)
+      omega (
+        arith,
+        start-whole shape k pass stand stand.section stand.phase one step.told (row_shows shape step.offered.op m.row) before,
+        ap (λ (p : Phase). whole_left shape k stand.section p stand.scans) idle,
+      )
 
   -- through a list of steps
   taken-whole : (m last : Machine) (steps : List (ℕ × Choice)) (leads : Leads shape m steps last) (l now : Local) → Known shape valid pass m
@@ -82,29 +80,33 @@ module _ (shape : Layout) (valid : IsShape shape) (pass k : ℕ) where
       own on step =
           let same : step.local ≡ l = some-same step.local l (sym step.here ∙ here) in
           let lt : k < scan_number pass step.local.stand.begun = subst (λ (one : Local). k < scan_number pass one.stand.begun) (sym same) before in
-          omega (arith, ap (λ (o : Option Local). one_step k o first.1) step.here, ap whole same,
-          own-whole m leads.0 first.1 b step lt,
-          on (after shape pass step.local first.1 step.told (row_shows shape step.offered.op m.row)) (own_after shape valid pass m leads.0 first.1 step) (omega (arith, lt, begun_later step.local.stand.begun first.1)))
+          omega (
+            arith,
+            ap (λ (o : Option Local). one_step k o first.1) step.here,
+            ap whole same,
+            own-whole m leads.0 first.1 b step lt,
+            on (after shape pass step.local first.1 step.told (row_shows shape step.offered.op m.row)) (own_after shape valid pass m leads.0 first.1 step) (omega (arith, lt, begun_later step.local.stand.begun first.1)),
+          )
 
       turn : ((next : Local) → slice_get leads.0.locals pass ≡ Some next → k < scan_number pass next.stand.begun
           → steps_taken shape pass k leads.0 later last leads.2 + whole now ≤ whole next)
           → (mine : Bool) → (first.0 == pass) ≡ mine
           → (if first.0 == pass then one_step k (slice_get m.locals pass) first.1 else 0) + steps_taken shape pass k leads.0 later last leads.2 + whole now ≤ whole l
       turn on true e =
-          omega (arith, ap {B = ℕ} (λ (b : Bool). if b then one_step k (slice_get m.locals pass) first.1 else 0) e,
-          own on (subst (λ (i : ℕ). Steps shape m i first.1 leads.0) (eqb-true first.0 pass e) leads.1))
+          omega (
+            arith,
+            ap {B = ℕ} (λ (b : Bool). if b then one_step k (slice_get m.locals pass) first.1 else 0) e,
+            own on (subst (λ (i : ℕ). Steps shape m i first.1 leads.0) (eqb-true first.0 pass e) leads.1),
+          )
       turn on false e =
-          omega (arith, ap {B = ℕ} (λ (b : Bool). if b then one_step k (slice_get m.locals pass) first.1 else 0) e,
-          on l (left_alone shape valid pass m leads.0 first.0 first.1 leads.1 e ∙ here) before)
+          omega (
+            arith,
+            ap {B = ℕ} (λ (b : Bool). if b then one_step k (slice_get m.locals pass) first.1 else 0) e,
+            on l (left_alone shape valid pass m leads.0 first.0 first.1 leads.1 e ∙ here) before,
+          )
 
 -- from the step that begins a scan on
-pub scans-bounded : (shape : Layout) (opening : Opening) (start : List ℕ) (m next last : Machine) (steps : List (ℕ × Choice)) (pass coll : ℕ) (first now : Local)
-    → IsShape shape → IsOpening opening → IsOpened shape opening start → Reach shape start m.row m.locals
-    → slice_get m.locals pass ≡ Some first → Steps shape m pass (Start (call.Scan coll)) next
-    → (leads : Leads shape next steps last) → slice_get last.locals pass ≡ Some now
-    → 1 + steps_taken shape pass (scan_number pass first.stand.begun) next steps last leads
-    + whole_left shape (scan_number pass first.stand.begun) now.stand.section now.stand.phase now.stand.scans
-    ≤ 2 + slots_of shape coll * (6 + 2 * width_of shape coll)
+pub scans-bounded : ScansAreBounded
 scans-bounded shape opening start m next last steps pass coll first now valid opens opened reached here step leads there =
     let b = kept-reached shape valid opening start m.row m.locals opens opened reached in
     let k : ℕ = scan_number pass first.stand.begun in
@@ -116,6 +118,10 @@ scans-bounded shape opening start m next last steps pass coll first now valid op
     subst (λ (i : ℕ). scan_of step.local.stand.scans i ≡ None) number (below-none step.local.stand.scans (scan_number pass step.local.stand.begun) (kept_by shape valid pass k m step.local b step.here).below) in
     let found : scan_of (step.local.stand.scans ++ new ∷ []) k ≡ Some new = begun-same step.local.stand.scans new k (eq-eqb (scan_number pass step.local.stand.begun) k number) fresh in
     let none_passed : slots_of shape coll - 0 ≡ slots_of shape coll = omega arith in
-    omega (arith, ap (stored_left shape) found, ap (λ (n : ℕ). n * (6 + 2 * width_of shape coll)) none_passed,
-    taken-whole shape valid pass k next last steps leads l now (known-step shape valid pass m next pass (Start (call.Scan coll)) b step)
-    (own_after shape valid pass m next (Start (call.Scan coll)) step) there (omega (arith, number)))
+    omega (
+      arith,
+      ap (stored_left shape) found,
+      ap (λ (n : ℕ). n * (6 + 2 * width_of shape coll)) none_passed,
+      taken-whole shape valid pass k next last steps leads l now (known-step shape valid pass m next pass (Start (call.Scan coll)) b step)
+          (own_after shape valid pass m next (Start (call.Scan coll)) step) there (omega (arith, number)),
+    )

@@ -17,11 +17,12 @@ use Rattle.smc_core.specs.Machine.{Machine, IsOpening, IsOpened, Leads, Reach, l
 use Rattle.smc_core.specs.Row.{has_place}
 use Rattle.smc_core.specs.Scan.{scan_of}
 
--- a look-up: the entry, an abandoning, and a move that is helped, field by field; one step where the region has no such entry
+-- a look-up: the entry, an abandoning, and a move that is helped; one step where the region has no such entry
 abbrev pub look_steps : Layout → Number → ℕ
 look_steps shape number = if has_place shape (place.Entry number.coll number.entry) then 4 + 2 * width_of shape number.coll else 1
 
--- an add: each slot and each entry is loaded and exchanged, and the record is stored
+-- an add: each slot and each entry is loaded and exchanged; then the slot is given back, or the record stored, and both
+-- count here
 abbrev pub add_steps : Layout → ℕ → ℕ
 add_steps shape coll = 2 * slots_of shape coll + 2 * entries_of shape coll + width_of shape coll + 4
 
@@ -73,7 +74,8 @@ pub record IsWithin (shape : Layout) (pass : ℕ) (first now : Local) (most : �
   pub few : now.steps ≤ first.steps + most
   pub ends : (now.stand.phase ≡ Idle) ⊎ (IsTrue (is_some (local_offer shape pass now Go)) × (now.steps < first.steps + most))
 
--- in every reachable state a call that is started and gone on with is within its bound, after whatever steps of others
+-- where a pass of a reachable state starts a call and goes on with it, it is within the call's bound after each list of
+-- steps, whatever the other passes do in between; so the call has ended where all of the bound is taken
 abbrev pub CallsAreBounded : Type 0
 CallsAreBounded = (shape : Layout) (opening : Opening) (start : List ℕ) (m last : Machine) (steps : List (ℕ × Choice)) (pass more : ℕ) (started : Call) (first now : Local)
     → IsShape shape → IsOpening opening → IsOpened shape opening start → Reach shape start m.row m.locals

@@ -7,7 +7,7 @@ pub fn calls_are_bounded()
     ensures { CallsAreBounded }
 {}
 
-/// A scan takes no more own steps than its bound in all, from its begin to its end, whatever other calls are made in between.
+/// A scan takes no more own steps than its bound in all, whatever calls its section makes and other passes do meanwhile.
 pub fn a_scan_is_bounded()
     ensures { ScansAreBounded }
 {}
