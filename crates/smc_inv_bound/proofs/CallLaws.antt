@@ -1,6 +1,6 @@
 -- Each step of each call leaves fewer steps.
 use Rattle.std.proofs.Common.{◌≡◌, ℕ, ◌+◌, ◌*◌, ◌<◌, ◌≤◌, ◌==◌, Bool, true, false, nat_lt, Option, Some, None, List, length, refl, sym, ap, subst, arith}
-use Rattle.std.specs.Prelude.{◌⊎◌, IsFalse, if◌then◌else◌}
+use Rattle.std.specs.Prelude.{IsFalse, if◌then◌else◌}
 use Rattle.std.proofs.lemmas.Bool.{cond_both, ltb-true}
 use Rattle.smc_words.specs.declared.number.Number.{Number}
 use Rattle.smc_shape.specs.Layout.{Layout, IsShape, width_of, slots_of, entries_of}
@@ -42,7 +42,7 @@ use Rattle.smc_core.specs.Begin.{begin_change, begin_counted, begin_counting, bl
 use Rattle.smc_core.specs.Cancel.{cancel_change, cancel_owner, next_cancelled, unfreeze}
 use Rattle.smc_core.specs.Count.{blocks_for, count_next, count_owner, counting, is_valid, survey_change, with_object}
 use Rattle.smc_core.specs.Finish.{finish_change, finish_next, frozen_slot, give_up, is_incoming, lock, move, next_target, target_owner, with_given_up, with_moved}
-use Rattle.smc_core.specs.Look.{copy_field, copy_next, find, find_after_abandon, find_after_swing, help_finding, look_change, look_finding, looking_change, passes, seeker_of, sought_number, visits}
+use Rattle.smc_core.specs.Look.{copy_field, find, find_after_abandon, find_after_swing, help_finding, look_change, look_finding, looking_change, passes, seeker_of, sought_number, visits}
 use Rattle.smc_core.specs.Remove.{remove_change}
 use Rattle.smc_core.specs.Ripe.{is_ripe_entry, is_ripe_slot, next_round}
 use Rattle.smc_core.specs.Scan.{is_scanned, owner_seen, scan_change}
@@ -56,7 +56,7 @@ use Rattle.smc_shape.specs.Layout.{no_coll, Collection}
 use Rattle.smc_shape.specs.declared.coll.TheConstants.{BLOCK_SLOTS, MAX_WIDTH}
 use Rattle.smc_model.specs.declared.event.Cause.TheVariants.{Slots}
 use Rattle.smc_core.specs.declared.section.Section.{Section}
-use Rattle.smc_inv_bound.specs.Left.{slots_behind, copy_left, scan_rest, seeker_left, look_left, scan_left, store_left, entry_left, add_left, remove_left, count_left, counted_coll, moves_left, sources_left, source_left, begin_left, targets_left, finish_left, cancel_left, steps_left}
+use Rattle.smc_inv_bound.specs.Left.{slots_behind, copy_left, scan_rest, seeker_left, look_left, scan_left, store_left, entry_left, add_left, remove_left, count_left, counted_coll, moves_left, sources_left, source_left, begin_left, targets_left, finish_left, cancel_left, steps_left, CountsWidths, CountsOwners}
 
 -- no record is wider than the greatest width
 pub width_low : (shape : Layout) (coll : ℕ) → IsShape shape → width_of shape coll ≤ MAX_WIDTH
@@ -66,150 +66,145 @@ width_low shape coll valid = elim (cases_lt coll (length shape.colls)) [
 ]
 
 -- fewer steps of a call that goes on in this phase are left than so many
-abbrev pub Falls : Layout → ℕ → Phase → Type 0
-Falls shape bound next = (section : Section) → steps_left shape section next < bound
+abbrev pub Falls : Layout → (ℕ → ℕ) → ℕ → Phase → Type 0
+Falls shape wide bound next = (section : Section) → steps_left shape wide section next < bound
 
-module _ (shape : Layout) (valid : IsShape shape) where
+module _ (shape : Layout) (wide : ℕ → ℕ) (widths : CountsWidths shape wide) where
   -- copying
-  copy_field-falls : (coll target field bound : ℕ) → (field < MAX_WIDTH → 2 * (MAX_WIDTH - (field + 1)) + 3 < bound) → 1 < bound → copy_left (copy_field shape coll target field) < bound
-  copy_field-falls coll target field bound more one = cond_both (nat_lt field (width_of shape coll)) (copy.Load target field) (copy.Swing target) (λ c. copy_left c < bound)
-      (λ t. more (omega (arith, ltb-true field (width_of shape coll) t, width_low shape coll valid))) (λ n. one)
+  copy_field-falls : (coll target field bound : ℕ) → (field < wide coll → 2 * (wide coll - (field + 1)) + 3 < bound) → 1 < bound → copy_left (wide coll) (copy_field shape coll target field) < bound
+  copy_field-falls coll target field bound more one = cond_both (nat_lt field (width_of shape coll)) (copy.Load target field) (copy.Swing target) (λ c. copy_left (wide coll) c < bound)
+      (λ t. more (omega (arith, ltb-true field (width_of shape coll) t, widths coll))) (λ n. one)
 
-  pub copy_next-falls : (coll : ℕ) (next : CopyPhase) (w : Word) → copy_left (copy_next shape coll next w) < copy_left next ⊎ (copy_next shape coll next w ≡ next)
-  copy_next-falls coll copy.Target w = inl (copy_field-falls coll (forward_of w) 0 (copy_left copy.Target) (λ m. omega arith) (omega arith))
-  copy_next-falls coll (copy.Load target field) w = inl (omega arith)
-  copy_next-falls coll (copy.Put target field value) w = inl (copy_field-falls coll target (field + 1) (copy_left (copy.Put target field value)) (λ m. omega (arith, m)) (omega arith))
-  copy_next-falls coll (copy.Swing target) w = inr refl
+  -- so much for each slot behind: of one slot more, so much more
+  behind_on : (coll slot each : ℕ) → slot + 1 < slots_of shape coll → each * slots_behind shape coll slot ≡ each * slots_behind shape coll (slot + 1) + each
+  behind_on coll slot each on =
+      let one : slots_behind shape coll slot ≡ slots_behind shape coll (slot + 1) + 1 = omega (arith, on) in
+      omega (arith, ap (λ (n : ℕ). each * n) one)
 
   -- a scan that passes a slot
-  pub passes-falls : (k coll slot bound : ℕ) → scan_rest shape coll slot < bound → Falls shape bound (passes shape k coll slot)
+  pub passes-falls : (k coll slot bound : ℕ) → scan_rest shape wide coll slot < bound → Falls shape wide bound (passes shape k coll slot)
   passes-falls k coll slot bound less section =
-      cond_both (nat_lt (slot + 1) (slots_of shape coll)) (phase.Scan (scan.Directory k coll (slot + 1))) (phase.Scan (scan.End k)) (λ p. steps_left shape section p < bound)
-      (λ t. omega (arith, less, ltb-true (slot + 1) (slots_of shape coll) t)) (λ n. omega (arith, less))
+      cond_both (nat_lt (slot + 1) (slots_of shape coll)) (phase.Scan (scan.Directory k coll (slot + 1))) (phase.Scan (scan.End k)) (λ p. steps_left shape wide section p < bound)
+      (λ t. omega (arith, less, behind_on coll slot (2 * wide coll + 6) (ltb-true (slot + 1) (slots_of shape coll) t))) (λ n. omega (arith, less))
 
   -- what a look-up learns leaves fewer steps
-  abbrev LessFinding : ℕ → Finding → Type 0
-  LessFinding bound Absent = 0 < bound
-  LessFinding bound (Stays slot) = 0 < bound
-  LessFinding bound (Abandons slot) = 2 * MAX_WIDTH + 3 < bound
-  LessFinding bound (Helps slot next) = (0 < bound) × (copy_left next < bound)
+  abbrev LessFinding : ℕ → ℕ → Finding → Type 0
+  LessFinding width bound Absent = 0 < bound
+  LessFinding width bound (Stays slot) = 0 < bound
+  LessFinding width bound (Abandons slot) = 2 * width + 3 < bound
+  LessFinding width bound (Helps slot next) = (0 < bound) × (copy_left width next < bound)
 
-  less_absent : (bound : ℕ) (b : Bool) (finding : Finding) → 0 < bound → LessFinding bound finding → LessFinding bound (if b then finding else Absent)
-  less_absent bound b finding some less = cond_both b finding Absent (LessFinding bound) (λ t. less) (λ n. some)
+  less_absent : (width bound : ℕ) (b : Bool) (finding : Finding) → 0 < bound → LessFinding width bound finding → LessFinding width bound (if b then finding else Absent)
+  less_absent width bound b finding some less = cond_both b finding Absent (LessFinding width bound) (λ t. less) (λ n. some)
 
-  find-less : (calm : Bool) (incarnation : ℕ) (s : State) → LessFinding (2 * MAX_WIDTH + 4) (find calm incarnation s)
-  find-less calm a (state.Free other stamp) = omega arith
-  find-less calm a (state.Claimed other) = omega arith
-  find-less calm a (state.Present other slot) = less_absent _ (other == a) (Stays slot) (omega arith) (omega arith)
-  find-less calm a (state.Frozen other slot) = less_absent _ (other == a) (if calm then Stays slot else Abandons slot) (omega arith)
-      (cond_both calm (Stays slot) (Abandons slot) (LessFinding (2 * MAX_WIDTH + 4)) (λ t. omega arith) (λ n. omega arith))
-  find-less calm a (state.Locked other slot) = less_absent _ (other == a) (if calm then Stays slot else Helps slot copy.Target) (omega arith)
-      (cond_both calm (Stays slot) (Helps slot copy.Target) (LessFinding (2 * MAX_WIDTH + 4)) (λ t. omega arith) (λ n. (omega arith, omega arith)))
-  find-less calm a (state.Removed other slot frozen locked) = omega arith
+  find-less : (width : ℕ) (calm : Bool) (incarnation : ℕ) (s : State) → LessFinding width (2 * width + 4) (find calm incarnation s)
+  find-less width calm a (state.Free other stamp) = omega arith
+  find-less width calm a (state.Claimed other) = omega arith
+  find-less width calm a (state.Present other slot) = less_absent width _ (other == a) (Stays slot) (omega arith) (omega arith)
+  find-less width calm a (state.Frozen other slot) = less_absent width _ (other == a) (if calm then Stays slot else Abandons slot) (omega arith)
+      (cond_both calm (Stays slot) (Abandons slot) (LessFinding width (2 * width + 4)) (λ t. omega arith) (λ n. omega arith))
+  find-less width calm a (state.Locked other slot) = less_absent width _ (other == a) (if calm then Stays slot else Helps slot copy.Target) (omega arith)
+      (cond_both calm (Stays slot) (Helps slot copy.Target) (LessFinding width (2 * width + 4)) (λ t. omega arith) (λ n. (omega arith, omega arith)))
+  find-less width calm a (state.Removed other slot frozen locked) = omega arith
 
-  find_after_abandon-less : (incarnation : ℕ) (s : State) → LessFinding (2 * MAX_WIDTH + 3) (find_after_abandon incarnation s)
-  find_after_abandon-less a (state.Free other stamp) = omega arith
-  find_after_abandon-less a (state.Claimed other) = omega arith
-  find_after_abandon-less a (state.Present other slot) = less_absent _ (other == a) (Stays slot) (omega arith) (omega arith)
-  find_after_abandon-less a (state.Frozen other slot) = less_absent _ (other == a) (Stays slot) (omega arith) (omega arith)
-  find_after_abandon-less a (state.Locked other slot) = less_absent _ (other == a) (Helps slot copy.Target) (omega arith) (omega arith, omega arith)
-  find_after_abandon-less a (state.Removed other slot frozen locked) = omega arith
+  find_after_abandon-less : (width : ℕ) (incarnation : ℕ) (s : State) → LessFinding width (2 * width + 3) (find_after_abandon incarnation s)
+  find_after_abandon-less width a (state.Free other stamp) = omega arith
+  find_after_abandon-less width a (state.Claimed other) = omega arith
+  find_after_abandon-less width a (state.Present other slot) = less_absent width _ (other == a) (Stays slot) (omega arith) (omega arith)
+  find_after_abandon-less width a (state.Frozen other slot) = less_absent width _ (other == a) (Stays slot) (omega arith) (omega arith)
+  find_after_abandon-less width a (state.Locked other slot) = less_absent width _ (other == a) (Helps slot copy.Target) (omega arith) (omega arith, omega arith)
+  find_after_abandon-less width a (state.Removed other slot frozen locked) = omega arith
 
-  find_after_swing-less : (incarnation : ℕ) (s : State) → LessFinding 1 (find_after_swing incarnation s)
-  find_after_swing-less a (state.Free other stamp) = omega arith
-  find_after_swing-less a (state.Claimed other) = omega arith
-  find_after_swing-less a (state.Present other slot) = less_absent _ (other == a) (Stays slot) (omega arith) (omega arith)
-  find_after_swing-less a (state.Frozen other slot) = less_absent _ (other == a) (Stays slot) (omega arith) (omega arith)
-  find_after_swing-less a (state.Locked other slot) = less_absent _ (other == a) (Stays slot) (omega arith) (omega arith)
-  find_after_swing-less a (state.Removed other slot frozen locked) = omega arith
+  find_after_swing-less : (width : ℕ) (incarnation : ℕ) (s : State) → LessFinding width 1 (find_after_swing incarnation s)
+  find_after_swing-less width a (state.Free other stamp) = omega arith
+  find_after_swing-less width a (state.Claimed other) = omega arith
+  find_after_swing-less width a (state.Present other slot) = less_absent width _ (other == a) (Stays slot) (omega arith) (omega arith)
+  find_after_swing-less width a (state.Frozen other slot) = less_absent width _ (other == a) (Stays slot) (omega arith) (omega arith)
+  find_after_swing-less width a (state.Locked other slot) = less_absent width _ (other == a) (Stays slot) (omega arith) (omega arith)
+  find_after_swing-less width a (state.Removed other slot frozen locked) = omega arith
 
-  copy_left-some : (next : CopyPhase) → 0 < copy_left next
-  copy_left-some copy.Target = omega arith
-  copy_left-some (copy.Load target field) = omega arith
-  copy_left-some (copy.Put target field value) = omega arith
-  copy_left-some (copy.Swing target) = omega arith
-
-  help-less : (number : Number) (slot : ℕ) (next : CopyPhase) (w : Word) → LessFinding (copy_left next) (help_finding shape number slot next w)
-  help-less number slot copy.Target w = (omega arith, copy_field-falls number.coll (forward_of w) 0 (copy_left copy.Target) (λ m. omega arith) (omega arith))
+  help-less : (number : Number) (slot : ℕ) (next : CopyPhase) (w : Word) → LessFinding (wide number.coll) (copy_left (wide number.coll) next) (help_finding shape number slot next w)
+  help-less number slot copy.Target w = (omega arith, copy_field-falls number.coll (forward_of w) 0 (copy_left (wide number.coll) copy.Target) (λ m. omega arith) (omega arith))
   help-less number slot (copy.Load target field) w = (omega arith, omega arith)
   help-less number slot (copy.Put target field value) w =
-      (omega arith, copy_field-falls number.coll target (field + 1) (copy_left (copy.Put target field value)) (λ m. omega (arith, m)) (omega arith))
+      (omega arith, copy_field-falls number.coll target (field + 1) (copy_left (wide number.coll) (copy.Put target field value)) (λ m. omega (arith, m)) (omega arith))
   help-less number slot (copy.Swing target) w =
-      cond_both (same_word w (word.Entry (state.Locked number.incarnation slot))) (Stays target) (find_after_swing number.incarnation (state_of w)) (LessFinding 1)
-      (λ t. omega arith) (λ n. find_after_swing-less number.incarnation (state_of w))
+      cond_both (same_word w (word.Entry (state.Locked number.incarnation slot))) (Stays target) (find_after_swing number.incarnation (state_of w)) (LessFinding (wide number.coll) 1)
+      (λ t. omega arith) (λ n. find_after_swing-less (wide number.coll) number.incarnation (state_of w))
 
   -- what a look-up itself has left
   abbrev alone_left : LookPhase → ℕ
-  alone_left (look.Load who number) = 2 * MAX_WIDTH + 4
-  alone_left (look.Abandon who number slot) = 2 * MAX_WIDTH + 3
-  alone_left (look.Help who number slot next) = copy_left next
+  alone_left (look.Load who number) = 2 * wide number.coll + 4
+  alone_left (look.Abandon who number slot) = 2 * wide number.coll + 3
+  alone_left (look.Help who number slot next) = copy_left (wide number.coll) next
 
-  look_finding-less : (calm : Bool) (next : LookPhase) (w : Word) → LessFinding (alone_left next) (look_finding shape calm next w)
-  look_finding-less calm (look.Load who number) w = find-less calm number.incarnation (state_of w)
+  look_finding-less : (calm : Bool) (next : LookPhase) (w : Word) → LessFinding (wide (sought_number next).coll) (alone_left next) (look_finding shape calm next w)
+  look_finding-less calm (look.Load who number) w = find-less (wide number.coll) calm number.incarnation (state_of w)
   look_finding-less calm (look.Abandon who number slot) w =
-      cond_both (same_word w (word.Entry (state.Frozen number.incarnation slot))) (Stays slot) (find_after_abandon number.incarnation (state_of w)) (LessFinding (2 * MAX_WIDTH + 3))
-      (λ t. omega arith) (λ n. find_after_abandon-less number.incarnation (state_of w))
+      cond_both (same_word w (word.Entry (state.Frozen number.incarnation slot))) (Stays slot) (find_after_abandon number.incarnation (state_of w)) (LessFinding (wide number.coll) (2 * wide number.coll + 3))
+      (λ t. omega arith) (λ n. find_after_abandon-less (wide number.coll) number.incarnation (state_of w))
   look_finding-less calm (look.Help who number slot next) w = help-less number slot next w
 
-  some_left : (bound : ℕ) (finding : Finding) → LessFinding bound finding → 0 < bound
-  some_left bound Absent less = less
-  some_left bound (Stays slot) less = less
-  some_left bound (Abandons slot) less = omega (arith, less)
-  some_left bound (Helps slot next) less = less.0
+  some_left : (width bound : ℕ) (finding : Finding) → LessFinding width bound finding → 0 < bound
+  some_left width bound Absent less = less
+  some_left width bound (Stays slot) less = less
+  some_left width bound (Abandons slot) less = omega (arith, less)
+  some_left width bound (Helps slot next) less = less.0
 
-  look_change-falls : (who : Seeker) (number : Number) (finding : Finding) (bound : ℕ) → LessFinding bound finding
-      → Falls shape (bound + seeker_left shape who) (look_change shape who number finding).phase
+  look_change-falls : (who : Seeker) (number : Number) (finding : Finding) (bound : ℕ) → LessFinding (wide number.coll) bound finding
+      → Falls shape wide (bound + seeker_left shape wide who) (look_change shape who number finding).phase
   look_change-falls seeker.Caller number Absent bound less section = omega (arith, less)
   look_change-falls seeker.Caller number (Stays slot) bound less section = omega (arith, less)
   look_change-falls seeker.Caller number (Abandons slot) bound less section = omega (arith, less)
   look_change-falls seeker.Caller number (Helps slot next) bound less section = omega (arith, less.1)
-  look_change-falls (seeker.Scan k coll place) number Absent bound less section = passes-falls k coll place (bound + scan_rest shape coll place) (omega (arith, less)) section
+  look_change-falls (seeker.Scan k coll place) number Absent bound less section = passes-falls k coll place (bound + scan_rest shape wide coll place) (omega (arith, less)) section
   look_change-falls (seeker.Scan k coll place) number (Stays slot) bound less section =
-      cond_both (slot == place) (visits k number slot) (goes (passes shape k coll place)) (λ c. steps_left shape section c.phase < bound + scan_rest shape coll place)
-      (λ t. omega (arith, less)) (λ n. passes-falls k coll place (bound + scan_rest shape coll place) (omega (arith, less)) section)
+      cond_both (slot == place) (visits k number slot) (goes (passes shape k coll place)) (λ c. steps_left shape wide section c.phase < bound + scan_rest shape wide coll place)
+      (λ t. omega (arith, less)) (λ n. passes-falls k coll place (bound + scan_rest shape wide coll place) (omega (arith, less)) section)
   look_change-falls (seeker.Scan k coll place) number (Abandons slot) bound less section = omega (arith, less)
   look_change-falls (seeker.Scan k coll place) number (Helps slot next) bound less section = omega (arith, less.1)
 
-  look_left-alone : (next : LookPhase) → look_left shape next ≡ alone_left next + seeker_left shape (seeker_of next)
+  look_left-alone : (next : LookPhase) → look_left shape wide next ≡ alone_left next + seeker_left shape wide (seeker_of next)
   look_left-alone (look.Load who number) = refl
   look_left-alone (look.Abandon who number slot) = refl
   look_left-alone (look.Help who number slot next) = refl
 
-  pub looking-falls : (calm : Bool) (next : LookPhase) (w : Word) → Falls shape (look_left shape next) (looking_change shape calm next w).phase
+  pub looking-falls : (calm : Bool) (next : LookPhase) (w : Word) → Falls shape wide (look_left shape wide next) (looking_change shape calm next w).phase
   looking-falls calm next w section =
-      subst (λ (n : ℕ). steps_left shape section (looking_change shape calm next w).phase < n) (sym (look_left-alone next))
+      subst (λ (n : ℕ). steps_left shape wide section (looking_change shape calm next w).phase < n) (sym (look_left-alone next))
       (look_change-falls (seeker_of next) (sought_number next) (look_finding shape calm next w) (alone_left next) (look_finding-less calm next w) section)
 
   -- a scan on its way
-  owner_seen-falls : (k coll slot : ℕ) (owner : Option Number) → Falls shape (2 * MAX_WIDTH + 5 + scan_rest shape coll slot) (owner_seen shape k coll slot owner).phase
-  owner_seen-falls k coll slot None section = passes-falls k coll slot _ (omega arith) section
-  owner_seen-falls k coll slot (Some owner) section = omega arith
+  owner_seen-falls : (k coll slot : ℕ) (owner : Option Number) → ((number : Number) → owner ≡ Some number → wide number.coll ≤ wide coll)
+      → Falls shape wide (2 * wide coll + 5 + scan_rest shape wide coll slot) (owner_seen shape k coll slot owner).phase
+  owner_seen-falls k coll slot None counts section = passes-falls k coll slot _ (omega arith) section
+  owner_seen-falls k coll slot (Some owner) counts section = omega (arith, counts owner refl)
 
-  pub scan-falls : (next : ScanPhase) (w : Word) → Falls shape (scan_left shape next) (scan_change shape next w).phase
-  scan-falls (scan.Directory k coll slot) w section =
-      cond_both (is_scanned (dir_of w)) (goes (phase.Scan (scan.Back k coll slot))) (goes (passes shape k coll slot)) (λ c. steps_left shape section c.phase < scan_left shape (scan.Directory k coll slot))
+  pub scan-falls : (next : ScanPhase) (w : Word) → CountsOwners wide (phase.Scan next) w → Falls shape wide (scan_left shape wide next) (scan_change shape next w).phase
+  scan-falls (scan.Directory k coll slot) w counts section =
+      cond_both (is_scanned (dir_of w)) (goes (phase.Scan (scan.Back k coll slot))) (goes (passes shape k coll slot)) (λ c. steps_left shape wide section c.phase < scan_left shape wide (scan.Directory k coll slot))
       (λ t. omega arith) (λ n. passes-falls k coll slot _ (omega arith) section)
-  scan-falls (scan.Back k coll slot) w section = owner_seen-falls k coll slot (back_of w) section
-  scan-falls (scan.End k) w section = omega arith
+  scan-falls (scan.Back k coll slot) w counts section = owner_seen-falls k coll slot (back_of w) counts section
+  scan-falls (scan.End k) w counts section = omega arith
 
   -- an add
-  next_slot-falls : (coll from slot tried bound : ℕ) → 2 * (slots_of shape coll - (tried + 1)) + (2 + entry_left shape coll 0) < bound
-      → Falls shape bound (next_slot shape coll from slot tried).phase
+  pub next_slot-falls : (coll from slot tried bound : ℕ) → 2 * (slots_of shape coll - (tried + 1)) + (2 + entry_left shape coll 0) < bound
+      → Falls shape wide bound (next_slot shape coll from slot tried).phase
   next_slot-falls coll from slot tried bound less section =
       cond_both (nat_lt (tried + 1) (slots_of shape coll)) (goes (phase.Add (add.FindSlot coll from (next_round (slots_of shape coll) slot) (tried + 1)))) (refuses coll Slots)
-      (λ c. steps_left shape section c.phase < bound)
+      (λ c. steps_left shape wide section c.phase < bound)
       (λ t. omega (arith, less, ltb-true (tried + 1) (slots_of shape coll) t)) (λ n. omega (arith, less))
 
-  next_entry-falls : (coll slot entry tried bound : ℕ) → entry_left shape coll tried < bound → Falls shape bound (next_entry shape coll slot entry tried).phase
+  next_entry-falls : (coll slot entry tried bound : ℕ) → entry_left shape coll tried < bound → Falls shape wide bound (next_entry shape coll slot entry tried).phase
   next_entry-falls coll slot entry tried bound less section =
       cond_both (nat_lt (tried + 1) (entries_of shape coll)) (goes (phase.Add (add.FindEntry coll slot (next_round (entries_of shape coll) entry) (tried + 1)))) (goes (phase.Add (add.DropSlot coll slot)))
-      (λ c. steps_left shape section c.phase < bound)
+      (λ c. steps_left shape wide section c.phase < bound)
       (λ t. omega (arith, less, ltb-true (tried + 1) (entries_of shape coll) t)) (λ n. omega (arith, less))
 
-  entry_seen-falls : (epoch coll slot entry tried : ℕ) (seen : State) → Falls shape (entry_left shape coll tried + 2) (entry_seen shape epoch coll slot entry tried seen).phase
+  entry_seen-falls : (epoch coll slot entry tried : ℕ) (seen : State) → Falls shape wide (entry_left shape coll tried + 2) (entry_seen shape epoch coll slot entry tried seen).phase
   entry_seen-falls epoch coll slot entry tried (state.Free incarnation stamp) section =
       cond_both (is_ripe_entry epoch incarnation stamp) (goes (phase.Add (add.ClaimEntry coll slot entry tried incarnation stamp))) (next_entry shape coll slot entry tried)
-      (λ c. steps_left shape section c.phase < entry_left shape coll tried + 2)
+      (λ c. steps_left shape wide section c.phase < entry_left shape coll tried + 2)
       (λ t. omega arith) (λ n. next_entry-falls coll slot entry tried _ (omega arith) section)
   entry_seen-falls epoch coll slot entry tried (state.Claimed incarnation) section = next_entry-falls coll slot entry tried _ (omega arith) section
   entry_seen-falls epoch coll slot entry tried (state.Present incarnation there) section = next_entry-falls coll slot entry tried _ (omega arith) section
@@ -223,21 +218,21 @@ module _ (shape : Layout) (valid : IsShape shape) where
       cond_both (nat_lt field (width_of shape number.coll)) (add.StoreField slot number field) (add.StoreValid slot number) (λ a. add_left shape a < bound)
       (λ t. more (ltb-true field (width_of shape number.coll) t)) (λ n. two)
 
-  pub add-falls : (epoch : ℕ) (words : List ℕ) (next : AddPhase) (w : Word) → Falls shape (add_left shape next) (add_change shape epoch words next w).phase
+  pub add-falls : (epoch : ℕ) (words : List ℕ) (next : AddPhase) (w : Word) → Falls shape wide (add_left shape next) (add_change shape epoch words next w).phase
   add-falls epoch words (add.FindSlot coll from slot tried) w section =
       cond_both (is_ripe_slot epoch (dir_of w)) (goes (phase.Add (add.ClaimSlot coll from slot tried (dir_of w)))) (next_slot shape coll from slot tried)
-      (λ c. steps_left shape section c.phase < add_left shape (add.FindSlot coll from slot tried))
+      (λ c. steps_left shape wide section c.phase < add_left shape (add.FindSlot coll from slot tried))
       (λ t. omega arith) (λ n. next_slot-falls coll from slot tried _ (omega arith) section)
   add-falls epoch words (add.ClaimSlot coll from slot tried seen) w section =
       cond_both (same_word w (word.Directory seen)) (goes (phase.Add (add.FindEntry coll slot from 0))) (next_slot shape coll from slot tried)
-      (λ c. steps_left shape section c.phase < add_left shape (add.ClaimSlot coll from slot tried seen))
+      (λ c. steps_left shape wide section c.phase < add_left shape (add.ClaimSlot coll from slot tried seen))
       (λ t. omega arith) (λ n. next_slot-falls coll from slot tried _ (omega arith) section)
   add-falls epoch words (add.DropSlot coll slot) w section = omega arith
   add-falls epoch words (add.FindEntry coll slot entry tried) w section = entry_seen-falls epoch coll slot entry tried (state_of w) section
   add-falls epoch words (add.ClaimEntry coll slot entry tried incarnation stamp) w section =
       cond_both (same_word w (word.Entry (state.Free incarnation stamp)))
       (goes (phase.Add (add.StoreBack slot (record { incarnation = incarnation + 1; entry = entry; coll = coll })))) (next_entry shape coll slot entry tried)
-      (λ c. steps_left shape section c.phase < add_left shape (add.ClaimEntry coll slot entry tried incarnation stamp))
+      (λ c. steps_left shape wide section c.phase < add_left shape (add.ClaimEntry coll slot entry tried incarnation stamp))
       (λ t. omega arith) (λ n. next_entry-falls coll slot entry tried _ (omega arith) section)
   add-falls epoch words (add.StoreBack slot number) w section = store_field-falls slot number 0 _ (λ m. omega (arith, m)) (omega arith)
   add-falls epoch words (add.StoreField slot number field) w section = store_field-falls slot number (field + 1) _ (λ m. omega (arith, m)) (omega arith)
@@ -245,7 +240,7 @@ module _ (shape : Layout) (valid : IsShape shape) where
   add-falls epoch words (add.StoreLive slot number) w section = omega arith
 
   -- a remove
-  pub remove-falls : (next : RemovePhase) → Falls shape (remove_left next) (remove_change next).phase
+  pub remove-falls : (next : RemovePhase) → Falls shape wide (remove_left next) (remove_change next).phase
   remove-falls (remove.LeaveSlot slot number) section = omega arith
   remove-falls (remove.FreeEntry number) section = omega arith
 
@@ -271,68 +266,75 @@ module _ (shape : Layout) (valid : IsShape shape) where
   counting-less (walk.Entry coll slot count number) w =
       count_next-less coll slot (if has_object_at number.incarnation slot (state_of w) then with_object slot count else count) _ (omega arith)
 
-  survey_change-falls : (coll bound : ℕ) (counting : Counting) → LessCounting coll bound counting → Falls shape bound (survey_change counting).phase
+  survey_change-falls : (coll bound : ℕ) (counting : Counting) → LessCounting coll bound counting → Falls shape wide bound (survey_change counting).phase
   survey_change-falls coll bound (Walks next) less section = less.0
   survey_change-falls coll bound (Counted other count) less section = less.0
 
-  pub survey-falls : (next : CountPhase) (w : Word) → Falls shape (count_left shape next) (survey_change (counting shape next w)).phase
+  pub survey-falls : (next : CountPhase) (w : Word) → Falls shape wide (count_left shape next) (survey_change (counting shape next w)).phase
   survey-falls next w = survey_change-falls (counted_coll next) (count_left shape next) (counting shape next w) (counting-less next w)
 
   -- a begin
   module _ (epoch : ℕ) where
-    to_source-falls : (moves : Walk) (bound : ℕ) → (moves.source < slots_of shape moves.coll → source_left shape moves + (MAX_WIDTH + 8) < bound) → 0 < bound
-        → Falls shape bound (to_source shape epoch moves).phase
+    to_source-falls : (moves : Walk) (bound : ℕ) → (moves.source < slots_of shape moves.coll → source_left shape wide moves + (wide moves.coll + 8) < bound) → 0 < bound
+        → Falls shape wide bound (to_source shape epoch moves).phase
     to_source-falls moves bound more some section =
-        cond_both (nat_lt moves.source (slots_of shape moves.coll)) (goes (phase.Begin (begin.SourceDirectory moves))) (ends_round epoch moves) (λ c. steps_left shape section c.phase < bound)
+        cond_both (nat_lt moves.source (slots_of shape moves.coll)) (goes (phase.Begin (begin.SourceDirectory moves))) (ends_round epoch moves) (λ c. steps_left shape wide section c.phase < bound)
         (λ t. more (ltb-true moves.source (slots_of shape moves.coll) t)) (λ n. some)
 
-    next_source-falls : (moves : Walk) (bound : ℕ) → source_left shape moves < bound → Falls shape bound (next_source shape epoch moves).phase
-    next_source-falls moves bound less = to_source-falls (record moves { source = moves.source + 1 }) bound (λ lt. omega (arith, less, lt)) (omega (arith, less))
+    next_source-falls : (moves : Walk) (bound : ℕ) → source_left shape wide moves < bound → Falls shape wide bound (next_source shape epoch moves).phase
+    next_source-falls moves bound less = to_source-falls (record moves { source = moves.source + 1 }) bound (λ lt. omega (arith, less, behind_on moves.coll moves.source (wide moves.coll + 8) lt)) (omega (arith, less))
 
-    to_target-falls : (moves : Walk) (number : Number) (bound : ℕ) → source_left shape moves + (MAX_WIDTH + 5) < bound → Falls shape bound (to_target epoch moves number).phase
+    to_target-falls : (moves : Walk) (number : Number) (bound : ℕ) → source_left shape wide moves + (wide moves.coll + 5) < bound → Falls shape wide bound (to_target epoch moves number).phase
     to_target-falls moves number bound less section =
-        cond_both (nat_lt moves.target moves.kept) (goes (phase.Begin (begin.TargetDirectory moves number))) (ends_round epoch moves) (λ c. steps_left shape section c.phase < bound)
+        cond_both (nat_lt moves.target moves.kept) (goes (phase.Begin (begin.TargetDirectory moves number))) (ends_round epoch moves) (λ c. steps_left shape wide section c.phase < bound)
         (λ t. omega (arith, less, ltb-true moves.target moves.kept t)) (λ n. omega (arith, less))
 
-    begin_counted-falls : (coll : ℕ) (count : Count) (bound : ℕ) → moves_left shape coll ≤ bound → Falls shape (bound + 1) (begin_counted shape epoch coll count).phase
+    first_source : (coll kept : ℕ) → kept < slots_of shape coll
+        → (wide coll + 8) * slots_behind shape coll kept + 2 * kept + (wide coll + 8) ≤ (wide coll + 10) * slots_of shape coll
+    first_source coll kept lt =
+        let behind : slots_behind shape coll kept + (kept + 1) ≡ slots_of shape coll = omega (arith, lt) in
+        omega (arith, ap (λ (n : ℕ). wide coll * n) behind, behind)
+
+    begin_counted-falls : (coll : ℕ) (count : Count) (bound : ℕ) → moves_left shape wide coll ≤ bound → Falls shape wide (bound + 1) (begin_counted shape epoch coll count).phase
     begin_counted-falls coll count bound le section =
         cond_both (nat_le count.blocks (blocks_for count.objects)) (goes (phase.Begin (begin.Nothing coll)))
-        (to_source shape epoch (first_walk coll (blocks_for count.objects * BLOCK_SLOTS))) (λ c. steps_left shape section c.phase < bound + 1)
-        (λ t. omega (arith, le)) (λ n. to_source-falls (first_walk coll (blocks_for count.objects * BLOCK_SLOTS)) (bound + 1) (λ lt. omega (arith, le, lt)) (omega arith) section)
+        (to_source shape epoch (first_walk coll (blocks_for count.objects * BLOCK_SLOTS))) (λ c. steps_left shape wide section c.phase < bound + 1)
+        (λ t. omega (arith, le)) (λ n. to_source-falls (first_walk coll (blocks_for count.objects * BLOCK_SLOTS)) (bound + 1)
+        (λ lt. omega (arith, le, first_source coll (blocks_for count.objects * BLOCK_SLOTS) lt)) (omega arith) section)
 
-    begin_counting-falls : (coll bound : ℕ) (counting : Counting) → LessCounting coll bound counting → Falls shape (bound + moves_left shape coll) (begin_counting shape epoch counting).phase
+    begin_counting-falls : (coll bound : ℕ) (counting : Counting) → LessCounting coll bound counting → Falls shape wide (bound + moves_left shape wide coll) (begin_counting shape epoch counting).phase
     begin_counting-falls coll bound (Walks next) less section =
-        omega (arith, less.0, ap (moves_left shape) less.1)
+        omega (arith, less.0, ap (moves_left shape wide) less.1)
     begin_counting-falls coll bound (Counted other count) less section =
-        omega (arith, less.0, begin_counted-falls other count (moves_left shape other) (omega arith) section, ap (moves_left shape) less.1)
+        omega (arith, less.0, begin_counted-falls other count (moves_left shape wide other) (omega arith) section, ap (moves_left shape wide) less.1)
 
-    source_owner-falls : (moves : Walk) (owner : Option Number) → Falls shape (source_left shape moves + (MAX_WIDTH + 7)) (source_owner shape epoch moves owner).phase
+    source_owner-falls : (moves : Walk) (owner : Option Number) → Falls shape wide (source_left shape wide moves + (wide moves.coll + 7)) (source_owner shape epoch moves owner).phase
     source_owner-falls moves None section = next_source-falls moves _ (omega arith) section
     source_owner-falls moves (Some number) section = omega arith
 
-    blank_field-falls : (moves : Walk) (number : Number) (field bound : ℕ) → (field < MAX_WIDTH → sources_left shape moves + (MAX_WIDTH - (field + 1)) + 6 < bound)
-        → sources_left shape moves + 5 < bound → begin_left shape (blank_field shape moves number field) < bound
+    blank_field-falls : (moves : Walk) (number : Number) (field bound : ℕ) → (field < wide moves.coll → sources_left shape wide moves + (wide moves.coll - (field + 1)) + 6 < bound)
+        → sources_left shape wide moves + 5 < bound → begin_left shape wide (blank_field shape moves number field) < bound
     blank_field-falls moves number field bound more five =
-        cond_both (nat_lt field (width_of shape moves.coll)) (begin.BlankField moves number field) (begin.StoreBack moves number) (λ b. begin_left shape b < bound)
-        (λ t. more (omega (arith, ltb-true field (width_of shape moves.coll) t, width_low shape moves.coll valid))) (λ n. five)
+        cond_both (nat_lt field (width_of shape moves.coll)) (begin.BlankField moves number field) (begin.StoreBack moves number) (λ b. begin_left shape wide b < bound)
+        (λ t. more (omega (arith, ltb-true field (width_of shape moves.coll) t, widths moves.coll))) (λ n. five)
 
-    pub begin-falls : (next : BeginPhase) (w : Word) → Falls shape (begin_left shape next) (begin_change shape epoch next w).phase
+    pub begin-falls : (next : BeginPhase) (w : Word) → Falls shape wide (begin_left shape wide next) (begin_change shape epoch next w).phase
     begin-falls (begin.Count next) w section = begin_counting-falls (counted_coll next) (count_left shape next) (counting shape next w) (counting-less next w) section
     begin-falls (begin.Nothing coll) w section = omega arith
     begin-falls (begin.SourceDirectory moves) w section =
-        cond_both (is_valid (dir_of w)) (goes (phase.Begin (begin.SourceBack moves))) (next_source shape epoch moves) (λ c. steps_left shape section c.phase < begin_left shape (begin.SourceDirectory moves))
+        cond_both (is_valid (dir_of w)) (goes (phase.Begin (begin.SourceBack moves))) (next_source shape epoch moves) (λ c. steps_left shape wide section c.phase < begin_left shape wide (begin.SourceDirectory moves))
         (λ t. omega arith) (λ n. next_source-falls moves _ (omega arith) section)
     begin-falls (begin.SourceBack moves) w section = source_owner-falls moves (back_of w) section
     begin-falls (begin.SourceEntry moves number) w section =
-        cond_both (is_source number moves.source (state_of w)) (to_target epoch moves number) (next_source shape epoch moves) (λ c. steps_left shape section c.phase < begin_left shape (begin.SourceEntry moves number))
+        cond_both (is_source number moves.source (state_of w)) (to_target epoch moves number) (next_source shape epoch moves) (λ c. steps_left shape wide section c.phase < begin_left shape wide (begin.SourceEntry moves number))
         (λ t. to_target-falls moves number _ (omega arith) section) (λ n. next_source-falls moves _ (omega arith) section)
     begin-falls (begin.TargetDirectory moves number) w section =
         cond_both (is_ripe_slot epoch (dir_of w)) (goes (phase.Begin (begin.ClaimTarget moves number (dir_of w)))) (to_target epoch (past_target moves) number)
-        (λ c. steps_left shape section c.phase < begin_left shape (begin.TargetDirectory moves number))
+        (λ c. steps_left shape wide section c.phase < begin_left shape wide (begin.TargetDirectory moves number))
         (λ t. omega arith) (λ n. to_target-falls (past_target moves) number _ (omega arith) section)
     begin-falls (begin.ClaimTarget moves number seen) w section =
         cond_both (same_word w (word.Directory seen)) (goes (phase.Begin (blank_field shape moves number 0))) (to_target epoch (past_target moves) number)
-        (λ c. steps_left shape section c.phase < begin_left shape (begin.ClaimTarget moves number seen))
+        (λ c. steps_left shape wide section c.phase < begin_left shape wide (begin.ClaimTarget moves number seen))
         (λ t. blank_field-falls moves number 0 _ (λ m. omega (arith, m)) (omega arith)) (λ n. to_target-falls (past_target moves) number _ (omega arith) section)
     begin-falls (begin.BlankField moves number field) w section = blank_field-falls moves number (field + 1) _ (λ m. omega (arith, m)) (omega arith)
     begin-falls (begin.StoreBack moves number) w section = omega arith
@@ -340,7 +342,7 @@ module _ (shape : Layout) (valid : IsShape shape) where
     begin-falls (begin.StoreIncoming moves number) w section = omega arith
     begin-falls (begin.Freeze moves number) w section =
         cond_both (same_word w (word.Entry (state.Present number.incarnation moves.source))) (next_source shape epoch (with_move (past_target moves))) (goes (phase.Begin (begin.GiveUp moves)))
-        (λ c. steps_left shape section c.phase < begin_left shape (begin.Freeze moves number))
+        (λ c. steps_left shape wide section c.phase < begin_left shape wide (begin.Freeze moves number))
         (λ t. next_source-falls (with_move (past_target moves)) _ (omega arith) section) (λ n. omega arith)
     begin-falls (begin.GiveUp moves) w section = next_source-falls (past_target moves) _ (omega arith) section
 
@@ -349,56 +351,58 @@ module _ (shape : Layout) (valid : IsShape shape) where
   is_end (finish.End targets) = true
   is_end _ = false
 
-  next_target-falls : (targets : Targets) (bound : ℕ) → targets_left shape targets < bound → finish_left shape (next_target shape targets) < bound
+  next_target-falls : (targets : Targets) (bound : ℕ) → targets_left shape wide targets < bound → finish_left shape wide (next_target shape targets) < bound
   next_target-falls targets bound less =
-      cond_both (nat_lt (targets.slot + 1) (slots_of shape targets.coll)) (finish.Directory (record targets { slot = targets.slot + 1 })) (finish.End targets) (λ f. finish_left shape f < bound)
-      (λ t. omega (arith, less, ltb-true (targets.slot + 1) (slots_of shape targets.coll) t)) (λ n. omega (arith, less))
+      cond_both (nat_lt (targets.slot + 1) (slots_of shape targets.coll)) (finish.Directory (record targets { slot = targets.slot + 1 })) (finish.End targets) (λ f. finish_left shape wide f < bound)
+      (λ t. omega (arith, less, behind_on targets.coll targets.slot (2 * wide targets.coll + 8) (ltb-true (targets.slot + 1) (slots_of shape targets.coll) t)))
+      (λ n. omega (arith, less))
 
-  given_up-falls : (gone : Bool) (targets : Targets) → finish_left shape (next_target shape (with_given_up gone targets)) < targets_left shape targets + 1
+  given_up-falls : (gone : Bool) (targets : Targets) → finish_left shape wide (next_target shape (with_given_up gone targets)) < targets_left shape wide targets + 1
   given_up-falls true targets = next_target-falls (with_given_up true targets) _ (omega arith)
   given_up-falls false targets = next_target-falls (with_given_up false targets) _ (omega arith)
 
-  target_owner-falls : (targets : Targets) (owner : Option Number) → finish_left shape (target_owner targets owner) < targets_left shape targets + (2 * MAX_WIDTH + 7)
-  target_owner-falls targets None = omega arith
-  target_owner-falls targets (Some number) = omega arith
+  target_owner-falls : (targets : Targets) (owner : Option Number) → ((number : Number) → owner ≡ Some number → wide number.coll ≤ wide targets.coll)
+      → finish_left shape wide (target_owner targets owner) < targets_left shape wide targets + (2 * wide targets.coll + 7)
+  target_owner-falls targets None counts = omega arith
+  target_owner-falls targets (Some number) counts = omega (arith, counts number refl)
 
-  lock-falls : (targets : Targets) (number : Number) (seen : State) (source : Option ℕ) → finish_left shape (lock targets number seen source) < targets_left shape targets + (2 * MAX_WIDTH + 6)
+  lock-falls : (targets : Targets) (number : Number) (seen : State) (source : Option ℕ) → finish_left shape wide (lock targets number seen source) < targets_left shape wide targets + (2 * wide number.coll + 6)
   lock-falls targets number seen None = omega arith
   lock-falls targets number seen (Some source) = omega arith
 
-  move-falls : (targets : Targets) (number : Number) (source : ℕ) (next : CopyPhase) (w : Word) → finish_left shape (move shape targets number source next w) < targets_left shape targets + 2 + copy_left next
-  move-falls targets number source copy.Target w = omega (arith, copy_field-falls number.coll (forward_of w) 0 (copy_left copy.Target) (λ m. omega arith) (omega arith))
+  move-falls : (targets : Targets) (number : Number) (source : ℕ) (next : CopyPhase) (w : Word) → finish_left shape wide (move shape targets number source next w) < targets_left shape wide targets + 2 + copy_left (wide number.coll) next
+  move-falls targets number source copy.Target w = omega (arith, copy_field-falls number.coll (forward_of w) 0 (copy_left (wide number.coll) copy.Target) (λ m. omega arith) (omega arith))
   move-falls targets number source (copy.Load target field) w = omega arith
   move-falls targets number source (copy.Put target field value) w =
-      omega (arith, copy_field-falls number.coll target (field + 1) (copy_left (copy.Put target field value)) (λ m. omega (arith, m)) (omega arith))
+      omega (arith, copy_field-falls number.coll target (field + 1) (copy_left (wide number.coll) (copy.Put target field value)) (λ m. omega (arith, m)) (omega arith))
   move-falls targets number source (copy.Swing target) w = omega arith
 
   -- but for the last step, which finish_change takes by itself
-  pub finish_next-falls : (next : FinishPhase) (w : Word) → IsFalse (is_end next) → finish_left shape (finish_next shape next w) < finish_left shape next
-  finish_next-falls (finish.Directory targets) w u =
-      cond_both (is_incoming (dir_of w)) (finish.Back targets) (next_target shape targets) (λ f. finish_left shape f < finish_left shape (finish.Directory targets))
+  pub finish_next-falls : (next : FinishPhase) (w : Word) → CountsOwners wide (phase.Finish next) w → IsFalse (is_end next) → finish_left shape wide (finish_next shape next w) < finish_left shape wide next
+  finish_next-falls (finish.Directory targets) w counts u =
+      cond_both (is_incoming (dir_of w)) (finish.Back targets) (next_target shape targets) (λ f. finish_left shape wide f < finish_left shape wide (finish.Directory targets))
       (λ t. omega arith) (λ n. next_target-falls targets _ (omega arith))
-  finish_next-falls (finish.Back targets) w u = target_owner-falls targets (back_of w)
-  finish_next-falls (finish.Entry targets number) w u = lock-falls targets number (state_of w) (frozen_slot number (state_of w))
-  finish_next-falls (finish.Lock targets number source) w u =
+  finish_next-falls (finish.Back targets) w counts u = target_owner-falls targets (back_of w) counts
+  finish_next-falls (finish.Entry targets number) w counts u = lock-falls targets number (state_of w) (frozen_slot number (state_of w))
+  finish_next-falls (finish.Lock targets number source) w counts u =
       cond_both (same_word w (word.Entry (state.Frozen number.incarnation source))) (finish.Move targets number source copy.Target) (give_up targets number (state_of w))
-      (λ f. finish_left shape f < finish_left shape (finish.Lock targets number source)) (λ t. omega arith) (λ n. omega arith)
-  finish_next-falls (finish.Move targets number source next) w u = move-falls targets number source next w
-  finish_next-falls (finish.Settle targets source) w u = omega arith
-  finish_next-falls (finish.LeaveSource targets source) w u = next_target-falls (with_moved targets) _ (omega arith)
-  finish_next-falls (finish.GiveUp targets gone) w u = given_up-falls gone targets
-  finish_next-falls (finish.End targets) w u = cc
+      (λ f. finish_left shape wide f < finish_left shape wide (finish.Lock targets number source)) (λ t. omega arith) (λ n. omega arith)
+  finish_next-falls (finish.Move targets number source next) w counts u = move-falls targets number source next w
+  finish_next-falls (finish.Settle targets source) w counts u = omega arith
+  finish_next-falls (finish.LeaveSource targets source) w counts u = next_target-falls (with_moved targets) _ (omega arith)
+  finish_next-falls (finish.GiveUp targets gone) w counts u = given_up-falls gone targets
+  finish_next-falls (finish.End targets) w counts u = cc
 
-  pub finish-falls : (section : Section) (next : FinishPhase) (w : Word) → steps_left shape section (finish_change shape next w).phase < finish_left shape next
-  finish-falls section (finish.End targets) w = omega arith
-  finish-falls section (finish.Directory targets) w = finish_next-falls (finish.Directory targets) w refl
-  finish-falls section (finish.Back targets) w = finish_next-falls (finish.Back targets) w refl
-  finish-falls section (finish.Entry targets number) w = finish_next-falls (finish.Entry targets number) w refl
-  finish-falls section (finish.Lock targets number source) w = finish_next-falls (finish.Lock targets number source) w refl
-  finish-falls section (finish.Move targets number source next) w = finish_next-falls (finish.Move targets number source next) w refl
-  finish-falls section (finish.Settle targets source) w = finish_next-falls (finish.Settle targets source) w refl
-  finish-falls section (finish.LeaveSource targets source) w = finish_next-falls (finish.LeaveSource targets source) w refl
-  finish-falls section (finish.GiveUp targets gone) w = finish_next-falls (finish.GiveUp targets gone) w refl
+  pub finish-falls : (section : Section) (next : FinishPhase) (w : Word) → CountsOwners wide (phase.Finish next) w → steps_left shape wide section (finish_change shape next w).phase < finish_left shape wide next
+  finish-falls section (finish.End targets) w counts = omega arith
+  finish-falls section (finish.Directory targets) w counts = finish_next-falls (finish.Directory targets) w counts refl
+  finish-falls section (finish.Back targets) w counts = finish_next-falls (finish.Back targets) w counts refl
+  finish-falls section (finish.Entry targets number) w counts = finish_next-falls (finish.Entry targets number) w counts refl
+  finish-falls section (finish.Lock targets number source) w counts = finish_next-falls (finish.Lock targets number source) w counts refl
+  finish-falls section (finish.Move targets number source next) w counts = finish_next-falls (finish.Move targets number source next) w counts refl
+  finish-falls section (finish.Settle targets source) w counts = finish_next-falls (finish.Settle targets source) w counts refl
+  finish-falls section (finish.LeaveSource targets source) w counts = finish_next-falls (finish.LeaveSource targets source) w counts refl
+  finish-falls section (finish.GiveUp targets gone) w counts = finish_next-falls (finish.GiveUp targets gone) w counts refl
 
   -- a cancel
   next_cancelled-falls : (coll slot bound : ℕ) → 5 * slots_behind shape coll slot + 1 < bound → cancel_left shape (next_cancelled shape coll slot) < bound
@@ -414,7 +418,7 @@ module _ (shape : Layout) (valid : IsShape shape) where
   unfreeze-falls coll slot number None = omega arith
   unfreeze-falls coll slot number (Some source) = omega arith
 
-  pub cancel-falls : (section : Section) (next : CancelPhase) (w : Word) → steps_left shape section (cancel_change shape next w).phase < cancel_left shape next
+  pub cancel-falls : (section : Section) (next : CancelPhase) (w : Word) → steps_left shape wide section (cancel_change shape next w).phase < cancel_left shape next
   cancel-falls section (cancel.Directory coll slot) w =
       cond_both (is_incoming (dir_of w)) (cancel.Back coll slot) (next_cancelled shape coll slot) (λ c. cancel_left shape c < cancel_left shape (cancel.Directory coll slot))
       (λ t. omega arith) (λ n. next_cancelled-falls coll slot _ (omega arith))

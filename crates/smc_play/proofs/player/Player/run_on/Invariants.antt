@@ -1,4 +1,4 @@
-use Rattle.smc_inv_bound.specs.Left.{left_of}
+use Rattle.smc_inv_bound.specs.Left.{left_of, widest}
 use Rattle.smc_play.specs.Plays.{playing, RunsOn, StopsOn}
 use Rattle.smc_play.specs.Turns.{Playing}
 use Rattle.smc_play.proofs.player.Player.run_on.Given as goal
@@ -11,4 +11,4 @@ invariant-loop-self l = record {
 }
 
 abbrev pub decreases-loop-self : goal.decreases-loop-self
-decreases-loop-self l = left_of l.self.machine.shape l.self.machine.machine l.pass
+decreases-loop-self l = left_of l.self.machine.shape widest l.self.machine.machine l.pass
