@@ -25,7 +25,8 @@ use Rattle.smc_rules.proofs.CarryLaws.{along, backed_step, get-set_other, get-se
 use Rattle.smc_inv_range.specs.Calls.{InOwned}
 use Rattle.smc_inv_bound.specs.Left.{steps_left}
 use Rattle.smc_inv_bound.proofs.StepLaws.{any_owners, go-falls}
-use Rattle.smc_bounds.specs.Bounds.{CallsAreBounded, IsWithin, most_steps, own_choices}
+use Rattle.smc_aside.specs.Makes.{own_choices}
+use Rattle.smc_bounds.specs.Bounds.{CallsAreBounded, IsWithin, most_steps}
 use Rattle.smc_bounds.specs.Kept.{Enters, Kept}
 use Rattle.smc_bounds.proofs.KeptLaws.{kept-kept, kept-reached, owners_shown}
 use Rattle.smc_bounds.proofs.StartLaws.{by_width, started-fits}

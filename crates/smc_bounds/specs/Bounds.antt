@@ -1,5 +1,5 @@
 -- How many steps of its own each call takes at most, whatever the other passes do meanwhile.
-use Rattle.std.specs.Prelude.{◌≡◌, ◌⊎◌, ℕ, ◌+◌, ◌-◌, ◌*◌, ◌<◌, ◌≤◌, ◌==◌, IsTrue, Option, Some, None, List, [], ◌∷◌, replicate, slice_get, is_some, if◌then◌else◌}
+use Rattle.std.specs.Prelude.{◌≡◌, ◌⊎◌, ℕ, ◌+◌, ◌-◌, ◌*◌, ◌<◌, ◌≤◌, IsTrue, Option, Some, None, List, ◌∷◌, replicate, slice_get, is_some, if◌then◌else◌}
 use Rattle.smc_words.specs.declared.number.Number.{Number}
 use Rattle.smc_shape.specs.Layout.{Layout, IsShape, slots_of, entries_of, width_of}
 use Rattle.smc_shape.specs.declared.place.Place.TheVariants as place
@@ -16,6 +16,7 @@ use Rattle.smc_core.specs.declared.phase.Phase.TheVariants.{Idle}
 use Rattle.smc_core.specs.Machine.{Machine, IsOpening, IsOpened, Leads, Reach, local_offer}
 use Rattle.smc_core.specs.Row.{has_place}
 use Rattle.smc_core.specs.Scan.{scan_of}
+use Rattle.smc_aside.specs.Makes.{own_choices}
 
 -- a look-up: the entry, an abandoning, and a move that is helped; one step where the region has no such entry
 abbrev pub look_steps : Layout → Number → ℕ
@@ -63,11 +64,6 @@ most_steps shape stand call.Cancel = cancel_steps shape stand.round
 most_steps shape stand (call.Survey coll) = 3 * slots_of shape coll
 most_steps shape stand call.Note = 1
 most_steps shape stand (call.Learn other note) = 1
-
--- what this pass chooses, of the steps of all
-abbrev pub own_choices : ℕ → List (ℕ × Choice) → List Choice
-own_choices pass [] = []
-own_choices pass (first ∷ later) = if first.0 == pass then first.1 ∷ own_choices pass later else own_choices pass later
 
 -- the pass has taken at most so many steps; its call has ended, or its next step is offered and is one of these
 pub record IsWithin (shape : Layout) (pass : ℕ) (first now : Local) (most : ℕ) : Type 0 where
