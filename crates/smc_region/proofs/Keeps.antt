@@ -9,6 +9,7 @@ use Rattle.atomic_table.proofs.Lists.{at_set}
 use Rattle.smc_shape.specs.Layout.{Layout}
 use Rattle.smc_shape.specs.Places.{InRange, at}
 use Rattle.smc_core.specs.declared.call.Choice.{Choice}
+use Rattle.smc_core.specs.declared.local.Learnt.{Learnt}
 use Rattle.smc_core.specs.declared.local.Local.{Local}
 use Rattle.smc_core.specs.declared.local.Opening.{Opening}
 use Rattle.smc_core.specs.declared.op.Offer.{Offer}
@@ -17,13 +18,13 @@ use Rattle.smc_core.specs.declared.op.Op.TheVariants.{Load, Store, Exchange, Mar
 use Rattle.smc_core.specs.declared.word.Word.{Word}
 use Rattle.smc_core.specs.Change.{change}
 use Rattle.smc_core.specs.Local.{after}
-use Rattle.smc_core.specs.Machine.{Machine, Steps, local_offer, stepped}
+use Rattle.smc_core.specs.Machine.{Machine, Steps, has_learnt, local_offer, stepped}
 use Rattle.smc_core.specs.Row.{OpFits, place_of, has_place, put, shown, row_after, row_shows}
 use Rattle.smc_rules.proofs.PlaceLaws.{in_range-has}
 use Rattle.smc_inv_range.proofs.ReachLaws.{offered_fits}
 use Rattle.smc_region.specs.declared.law.NoteSeen.{NoteSeen}
 use Rattle.smc_region.specs.declared.law.View.{View}
-use Rattle.smc_region.specs.Reached.{IsReached, From, Saw, StandsIn}
+use Rattle.smc_region.specs.Reached.{IsReached, From, RestsOn, Saw, StandsIn}
 use Rattle.smc_region.specs.Rule.{Kept, Fits, HoldsLocal, HoldsNote, IsOwn}
 use Rattle.smc_region.specs.Views.{IsAlone, one, view_after, op_of, sole_op, view_op}
 use Rattle.smc_region.proofs.StepLaws.{get-set_same, get-set_other, own-told, own-learnt, reach-then, is_learnt-set, note-stays}
@@ -52,7 +53,7 @@ notes shape locals pass l choice told w noter seat (n ∷ ns) here own (h, hs) =
   record {
     owned = h.owned;
     has = note-stays locals pass l new (change shape pass l.stand l.stand.section l.stand.phase choice told w).event choice n.pass n.number n.log here refl refl h.has;
-    unlearnt = is_learnt-set locals pass l new n.pass n.number here (own-learnt l.learnt choice own) ∙ h.unlearnt;
+    unlearnt = is_learnt-set locals pass l new n.pass n.number here (ap (λ (xs : List Learnt). has_learnt xs n.pass n.number) (own-learnt l.learnt choice own)) ∙ h.unlearnt;
   },
   notes shape locals pass l choice told w noter seat ns here own hs,
 )
@@ -65,7 +66,7 @@ abbrev pub Then : Choice → Op → Me (Unit {0}) View → ℕ → Me (Unit {0})
 Then choice op me found me' = (me' ≡ (view_after choice 0 (shown op found) me.0, me.1)) × Saw me.0 op (shown op found) × From me'.0
 
 -- the row after an operation on a place that the region has, and what it shows
-row-there : (shape : Layout) (op : Op) (row : List ℕ) → has_place shape (place_of op) ≡ true
+pub row-there : (shape : Layout) (op : Op) (row : List ℕ) → has_place shape (place_of op) ≡ true
     → row_after shape op row ≡ slice_set row (at shape (place_of op)) (put op (slice_index row (at shape (place_of op))))
 row-there shape op row has = ap (λ (b : Bool). if b then slice_set row (at shape (place_of op)) (put op (slice_index row (at shape (place_of op)))) else row) has
 
@@ -154,3 +155,10 @@ seat_fits view choice op from is = go view.locals from.stands is
     go (x ∷ y ∷ ys) h e = cc
     go (x ∷ []) h e = let o = op_of-some (local_offer view.shape x.0 x.1 choice) op e in let r = from.reached in
         offered_fits view.shape from.opening r.start from.machine.row from.machine.locals x.0 x.1 choice record { kind = o.0; op = op } r.valid r.opens r.opened r.reach h.0 o.1
+
+-- so does what a step rests on
+pub rests_fits : (view : View) (choice : Choice) (op : Op) → RestsOn view op → view_op view choice ≡ Some op → OpFits view.shape op
+rests_fits view choice op rests is = ⊎_elim
+    (λ from. seat_fits view choice op from is)
+    (λ e. subst (λ (o : Op). OpFits view.shape o) (sym e) tt)
+    rests

@@ -7,3 +7,5 @@ pub mod Deals
 pub mod EpochLaws
 pub mod Gathers
 pub mod Closes
+pub mod NoteLaws
+pub mod Tells

@@ -3,6 +3,7 @@ pub mod Views
 pub mod Rule
 pub mod Choices
 pub mod Callers
+pub mod Notes
 pub mod Sections
 pub mod Looks
 pub mod Advances

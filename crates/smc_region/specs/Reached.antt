@@ -1,10 +1,12 @@
 -- What a step on the table rests on: the region is in a state that the machine reaches.
-use Rattle.std.specs.Prelude.{◌≡◌, ℕ, Some, List, slice_get}
+use Rattle.std.specs.Prelude.{◌≡◌, ◌⊎◌, ℕ, Some, List, slice_get}
 use Rattle.std.specs.List.{AllByRecursion}
 use Rattle.smc_shape.specs.Layout.{Layout, IsShape}
+use Rattle.smc_shape.specs.declared.place.Place.TheVariants as place
 use Rattle.smc_core.specs.declared.local.Local.{Local}
 use Rattle.smc_core.specs.declared.local.Opening.{Opening}
 use Rattle.smc_core.specs.declared.op.Op.{Op}
+use Rattle.smc_core.specs.declared.op.Op.TheVariants.{Load}
 use Rattle.smc_core.specs.declared.word.Word.{Word}
 use Rattle.smc_core.specs.Machine.{Machine, IsOpening, IsOpened, Reach}
 use Rattle.smc_core.specs.Row.{row_shows}
@@ -29,7 +31,11 @@ pub record From (view : View) : Type 0 where
   pub reached : IsReached view.shape opening machine.row machine.locals
   pub stands : AllByRecursion (StandsIn machine.locals) view.locals
 
--- and there the operation shows this word
+-- what a step rests on: such a state, or nothing where it loads the epoch, as the first step of a call outside a section does
+abbrev pub RestsOn : View → Op → Type 0
+RestsOn view op = From view ⊎ (op ≡ Load place.Epoch)
+
+-- some state that is reached has the local states of this view, and there the operation shows this word
 pub record Saw (view : View) (op : Op) (w : Word) : Type 0 where
   pub from : From view
   pub is : w ≡ row_shows view.shape op from.machine.row

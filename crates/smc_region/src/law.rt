@@ -93,3 +93,25 @@ impl Join<View> for Gather {
 
     ghost spent = { spent };
 }
+
+/// A pass makes a note, which goes to a seat of its own.
+pub struct Notes;
+
+impl Split<View> for Notes {
+    ghost use Rattle.smc_region.specs.Views.{note_of, noting};
+
+    ghost left = { noting };
+
+    ghost right = { note_of };
+}
+
+/// The seat of a pass takes a note in, and the pass learns it.
+pub struct Learns;
+
+impl Join<View> for Learns {
+    ghost use Rattle.smc_region.specs.Views.{learning, spent};
+
+    ghost both = { learning };
+
+    ghost spent = { spent };
+}
