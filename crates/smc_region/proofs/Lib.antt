@@ -9,3 +9,5 @@ pub mod Gathers
 pub mod Closes
 pub mod NoteLaws
 pub mod Tells
+pub mod KindLaws
+pub mod ActLaws

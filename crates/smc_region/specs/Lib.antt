@@ -6,5 +6,6 @@ pub mod Callers
 pub mod Notes
 pub mod Sections
 pub mod Looks
+pub mod Acts
 pub mod Advances
 pub mod Ends

@@ -47,6 +47,15 @@ op_of None = None
 op_of (Some offered) = Some offered.op
 
 -- what the pass of a view offers for the choice, if the view is of one pass
+abbrev pub offer_of : Layout → List (ℕ × Local) → Choice → Option Offer
+offer_of shape [] choice = None
+offer_of shape (x ∷ []) choice = local_offer shape x.0 x.1 choice
+offer_of shape (x ∷ y ∷ later) choice = None
+
+abbrev pub sole_offer : View → Choice → Option Offer
+sole_offer view choice = offer_of view.shape view.locals choice
+
+-- its operation
 abbrev pub sole_op : Layout → List (ℕ × Local) → Choice → Option Op
 sole_op shape [] choice = None
 sole_op shape (x ∷ []) choice = op_of (local_offer shape x.0 x.1 choice)

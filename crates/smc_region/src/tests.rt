@@ -1,11 +1,11 @@
-ghost use Rattle.std.specs.Prelude.{◌≡◌, ◌≢◌, ◌+◌, ◌*◌, ◌∷◌, ◌++◌, [], IfOk, IfSome, length};
+ghost use Rattle.std.specs.Prelude.{◌≡◌, ◌≢◌, ◌+◌, ◌*◌, ◌<◌, ◌∷◌, [], IfOk, IfSome, length};
 ghost use Rattle.smc_shape.specs.Layout.{asked};
-ghost use Rattle.smc_model.specs.declared.event.Event.TheVariants as event;
-ghost use Rattle.smc_region.specs.Callers.{IsPassOf};
+ghost use Rattle.smc_core.specs.declared.phase.Phase.TheVariants.{Idle};
+ghost use Rattle.smc_region.specs.Callers.{IsPassOf, IsSame};
 ghost use Rattle.smc_region.specs.Notes.{IsNoteOf};
 ghost use Rattle.smc_region.specs.Reached.{IsReached};
 
-use crate::{Advance, Note, Pass, Quiet, Region};
+use crate::{Act, Advance, Chosen, Note, Pass, Quiet, Region, Section};
 use smc_core::{LAST_EPOCH, Opening};
 use smc_shape::{CollShape, Shape};
 use smc_words::{NoMemory, Number};
@@ -247,6 +247,51 @@ fn a_note_of_another_thread_is_learnt_and_one_is_left_over(
     assert!(rt; quiet.shape().words() > 3);
     assert_eq!(rt; (quiet.word(1), quiet.word(2), quiet.word(3)), (0, 0, 0));
     assert_eq!(rt; spare.pass(), 1);
+    quiet.free();
+    Ok(())
+}
+
+/// Begins a scan by numbers, which loads the own section word. Answers what it found there.
+fn begin_scan(section: &mut Section<'_>) -> u64
+    requires idle { section.old.local.stand.phase ≡ Idle }
+    requires pass { section.old.number < section.old.shape.passes }
+    requires coll { 0 < length section.old.shape.colls }
+    requires first { length section.old.local.stand.scans ≡ 0 }
+    ensures same { IsSame section.old section.new }
+    ensures idle { section.new.local.stand.phase ≡ Idle }
+    ensures scans { length section.new.local.stand.scans ≡ 1 }
+{
+    let _ = section.calm();
+    let word = section.region().shape().section_at(section.pass());
+    let load = Act {
+        kind: 8,
+        word,
+        expect: 0,
+        put: 0,
+    };
+    section.act(Chosen::Scan { coll: 0 }, load)
+}
+
+#[test]
+fn a_step_by_numbers_answers_the_number_of_its_word(rt: HostRuntime) -> Result<(), NoMemory> {
+    let alloc = rt.alloc();
+    let Some(shape) = small(alloc) else {
+        return Err(NoMemory);
+    };
+    let (region, mut passes) = Region::open(alloc, shape, Opening::plain())?;
+    let Some(second) = passes.pop() else {
+        return Err(NoMemory);
+    };
+    let Some(first) = passes.pop() else {
+        return Err(NoMemory);
+    };
+    let mut section = first.enter(&region);
+    assert_eq!(rt; begin_scan(&mut section), 2);
+    assert_eq!(rt; section.scans(), 1);
+    let first = section.leave();
+    let quiet = close_two(alloc, region, first, second)?;
+    assert!(rt; quiet.shape().words() > 3);
+    assert_eq!(rt; (quiet.word(2), quiet.word(3)), (0, 0));
     quiet.free();
     Ok(())
 }
