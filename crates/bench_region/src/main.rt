@@ -52,7 +52,7 @@ fn read_fields(section: &mut Section<'_>, held: Held, width: u32, turns: u32) ->
                     field,
                 },
             };
-            let value = section.act(Chosen::Read { number, field }, load).plain();
+            let value = section.take(Chosen::Read { number, field }, load).plain();
             sum = sum.wrapping_add(value);
         }
     }

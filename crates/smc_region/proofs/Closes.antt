@@ -20,7 +20,7 @@ use Rattle.smc_region.specs.Rule.{HoldsLocal}
 use Rattle.smc_region.specs.Views.{one, numbered, holding, gathered}
 use Rattle.smc_region.proofs.Keeps.{Rule}
 
-get-here : {A : Type 0} (xs ys : List A) (x : A) → slice_get (xs ++ x ∷ ys) (length xs) ≡ Some x
+pub get-here : {A : Type 0} (xs ys : List A) (x : A) → slice_get (xs ++ x ∷ ys) (length xs) ≡ Some x
 get-here [] ys x = refl
 get-here (y ∷ xs) ys x = get-here xs ys x
 

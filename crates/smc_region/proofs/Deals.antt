@@ -44,14 +44,6 @@ module _ (shape : Layout) where
   pub opened_is_reached : (opens : Opening) (row : List ℕ) → IsShape shape → IsOpening opens → IsOpened shape opens row → IsReached shape opens row (started shape row).locals
   opened_is_reached opens row valid is opened = record { start = row; valid = valid; opens = is; opened = opened; reach = ([], refl) }
 
-  pub first_from : (opens : Opening) (row : List ℕ) (number : ℕ) → IsShape shape → IsOpening opens → IsOpened shape opens row → number < shape.passes → From (one shape number (fresh shape))
-  first_from opens row number valid is opened below = record {
-    opening = opens;
-    machine = started shape row;
-    reached = opened_is_reached opens row valid is opened;
-    stands = (fresh-here shape.passes number below, tt);
-  }
-
   pub opens_rule : (opens : Opening) (row : List ℕ) → IsShape shape → IsOpening opens → IsOpened shape opens row → Rule shape opens (opening row [] (first_view shape))
   opens_rule opens row valid is opened = record {
     locals = (started shape row).locals;

@@ -8,7 +8,9 @@ use Rattle.atomic_table.specs.Table.{State, Me, keeps, Allows}
 use Rattle.atomic_table.proofs.Lists.{at_set}
 use Rattle.smc_shape.specs.Layout.{Layout}
 use Rattle.smc_shape.specs.Places.{InRange, at}
+use Rattle.smc_shape.specs.declared.place.Place.{Place}
 use Rattle.smc_core.specs.declared.call.Choice.{Choice}
+use Rattle.smc_core.specs.declared.local.Learnt.{Learnt}
 use Rattle.smc_core.specs.declared.local.Local.{Local}
 use Rattle.smc_core.specs.declared.local.Opening.{Opening}
 use Rattle.smc_core.specs.declared.op.Offer.{Offer}
@@ -17,13 +19,13 @@ use Rattle.smc_core.specs.declared.op.Op.TheVariants.{Load, Store, Exchange, Mar
 use Rattle.smc_core.specs.declared.word.Word.{Word}
 use Rattle.smc_core.specs.Change.{change}
 use Rattle.smc_core.specs.Local.{after}
-use Rattle.smc_core.specs.Machine.{Machine, Steps, local_offer, stepped}
-use Rattle.smc_core.specs.Row.{OpFits, place_of, has_place, put, shown, row_after, row_shows}
+use Rattle.smc_core.specs.Machine.{Machine, Steps, has_learnt, local_offer, stepped}
+use Rattle.smc_core.specs.Row.{OpFits, place_of, has_place, number_at, put, shown, row_after, row_shows}
 use Rattle.smc_rules.proofs.PlaceLaws.{in_range-has}
 use Rattle.smc_inv_range.proofs.ReachLaws.{offered_fits}
 use Rattle.smc_region.specs.declared.law.NoteSeen.{NoteSeen}
 use Rattle.smc_region.specs.declared.law.View.{View}
-use Rattle.smc_region.specs.Reached.{IsReached, From, Saw, StandsIn}
+use Rattle.smc_region.specs.Reached.{IsReached, From, RestsOn, Saw, Showed, StandsIn, answered_number}
 use Rattle.smc_region.specs.Rule.{Kept, Fits, HoldsLocal, HoldsNote, IsOwn}
 use Rattle.smc_region.specs.Views.{IsAlone, one, view_after, op_of, sole_op, view_op}
 use Rattle.smc_region.proofs.StepLaws.{get-set_same, get-set_other, own-told, own-learnt, reach-then, is_learnt-set, note-stays}
@@ -52,7 +54,7 @@ notes shape locals pass l choice told w noter seat (n ∷ ns) here own (h, hs) =
   record {
     owned = h.owned;
     has = note-stays locals pass l new (change shape pass l.stand l.stand.section l.stand.phase choice told w).event choice n.pass n.number n.log here refl refl h.has;
-    unlearnt = is_learnt-set locals pass l new n.pass n.number here (own-learnt l.learnt choice own) ∙ h.unlearnt;
+    unlearnt = is_learnt-set locals pass l new n.pass n.number here (ap (λ (xs : List Learnt). has_learnt xs n.pass n.number) (own-learnt l.learnt choice own)) ∙ h.unlearnt;
   },
   notes shape locals pass l choice told w noter seat ns here own hs,
 )
@@ -62,12 +64,15 @@ Rule shape opening s = Kept shape opening s.words s.views
 
 -- what a step of this choice and operation tells the seat that takes it, which finds this number
 abbrev pub Then : Choice → Op → Me (Unit {0}) View → ℕ → Me (Unit {0}) View → Type 0
-Then choice op me found me' = (me' ≡ (view_after choice 0 (shown op found) me.0, me.1)) × Saw me.0 op (shown op found) × From me'.0
+Then choice op me found me' = (me' ≡ (view_after choice 0 (shown op found) me.0, me.1)) × Showed me.0 op (answered_number op found) × From me'.0
 
 -- the row after an operation on a place that the region has, and what it shows
-row-there : (shape : Layout) (op : Op) (row : List ℕ) → has_place shape (place_of op) ≡ true
+pub row-there : (shape : Layout) (op : Op) (row : List ℕ) → has_place shape (place_of op) ≡ true
     → row_after shape op row ≡ slice_set row (at shape (place_of op)) (put op (slice_index row (at shape (place_of op))))
 row-there shape op row has = ap (λ (b : Bool). if b then slice_set row (at shape (place_of op)) (put op (slice_index row (at shape (place_of op)))) else row) has
+
+number-there : (shape : Layout) (there : Place) (row : List ℕ) → has_place shape there ≡ true → number_at shape row there ≡ slice_index row (at shape there)
+number-there shape there row has = ap (λ (b : Bool). if b then slice_index row (at shape there) else 0) has
 
 shows-there : (shape : Layout) (op : Op) (row : List ℕ) → has_place shape (place_of op) ≡ true
     → row_shows shape op row ≡ shown op (slice_index row (at shape (place_of op)))
@@ -121,7 +126,11 @@ acts shape opening slots seat told pass l choice o own offers s kept _ at_seat s
             })
             (at_set s.views seat j view v is);
       },
-      subst (λ (seen : Word). (now_me ≡ (one told pass (after told pass l choice 0 seen), [])) × Saw (one told pass l) o.op seen × From view) shows (refl, record { from = from; is = refl }, there),
+      (
+        subst (λ (seen : Word). now_me ≡ (one told pass (after told pass l choice 0 seen), [])) shows refl,
+        record { from = from; is = ap (answered_number o.op) (sym (number-there told (place_of o.op) s.words has)) },
+        there,
+      ),
     )
 
 -- an operation that is offered comes with an offer
@@ -154,3 +163,24 @@ seat_fits view choice op from is = go view.locals from.stands is
     go (x ∷ y ∷ ys) h e = cc
     go (x ∷ []) h e = let o = op_of-some (local_offer view.shape x.0 x.1 choice) op e in let r = from.reached in
         offered_fits view.shape from.opening r.start from.machine.row from.machine.locals x.0 x.1 choice record { kind = o.0; op = op } r.valid r.opens r.opened r.reach h.0 o.1
+
+-- so does what a step rests on
+pub rests_fits : (view : View) (choice : Choice) (op : Op) → RestsOn view op → view_op view choice ≡ Some op → OpFits view.shape op
+rests_fits view choice op rests is = ⊎_elim
+    (λ from. seat_fits view choice op from is)
+    (λ e. subst (λ (o : Op). OpFits view.shape o) (sym e) tt)
+    rests
+
+-- what an operation shows does not ask what a store found
+shown-answered : (op : Op) (number : ℕ) → shown op (answered_number op number) ≡ shown op number
+shown-answered (Load there) number = refl
+shown-answered (Store there w) number = refl
+shown-answered (Exchange there expect w) number = refl
+shown-answered (MarkGone coll entry) number = refl
+
+-- a step that was answered this number saw its word
+pub saw-showed : (view : View) (op : Op) (number : ℕ) (w : Word) → w ≡ shown op number → Showed view op (answered_number op number) → Saw view op w
+saw-showed view op number w is s = record {
+  from = s.from;
+  is = is ∙ (sym (shown-answered op number) ∙ (ap (shown op) s.is ∙ shown-answered op (number_at view.shape s.from.machine.row (place_of op))));
+}

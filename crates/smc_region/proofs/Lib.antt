@@ -7,3 +7,7 @@ pub mod Deals
 pub mod EpochLaws
 pub mod Gathers
 pub mod Closes
+pub mod NoteLaws
+pub mod Tells
+pub mod KindLaws
+pub mod ActLaws

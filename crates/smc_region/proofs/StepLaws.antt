@@ -117,13 +117,13 @@ notes-longer notes (Start call.Cancel) size number n is = is
 notes-longer notes (Start (call.Survey coll)) size number n is = is
 notes-longer notes (Start (call.Learn other note)) size number n is = is
 
--- where a pass has learnt nothing more, no pass has
-pub is_learnt-set : (locals : List Local) (pass : ℕ) (l new : Local) (other note : ℕ) → slice_get locals pass ≡ Some l → new.learnt ≡ l.learnt
+-- where a pass has not learnt this note, no pass has
+pub is_learnt-set : (locals : List Local) (pass : ℕ) (l new : Local) (other note : ℕ) → slice_get locals pass ≡ Some l → has_learnt new.learnt other note ≡ has_learnt l.learnt other note
     → is_learnt (slice_set locals pass new) other note ≡ is_learnt locals other note
 is_learnt-set [] pass l new other note here same = refl
 is_learnt-set (first ∷ later) zero l new other note here same =
     let is : first ≡ l = some-same first l here in
-    ap (λ (learnt : List Learnt). has_learnt learnt other note || is_learnt later other note) (same ∙ ap (λ (k : Local). k.learnt) (sym is))
+    ap (λ (b : Bool). b || is_learnt later other note) (same ∙ ap (λ (k : Local). has_learnt k.learnt other note) (sym is))
 is_learnt-set (first ∷ later) (suc pass) l new other note here same =
     ap (λ (b : Bool). has_learnt first.learnt other note || b) (is_learnt-set later pass l new other note here same)
 

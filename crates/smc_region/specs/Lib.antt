@@ -3,7 +3,9 @@ pub mod Views
 pub mod Rule
 pub mod Choices
 pub mod Callers
+pub mod Notes
 pub mod Sections
 pub mod Looks
+pub mod Acts
 pub mod Advances
 pub mod Ends

@@ -1,13 +1,15 @@
 -- What a step on the table rests on: the region is in a state that the machine reaches.
-use Rattle.std.specs.Prelude.{◌≡◌, ℕ, Some, List, slice_get}
+use Rattle.std.specs.Prelude.{◌≡◌, ◌⊎◌, ℕ, Some, List, slice_get}
 use Rattle.std.specs.List.{AllByRecursion}
 use Rattle.smc_shape.specs.Layout.{Layout, IsShape}
+use Rattle.smc_shape.specs.declared.place.Place.TheVariants as place
 use Rattle.smc_core.specs.declared.local.Local.{Local}
 use Rattle.smc_core.specs.declared.local.Opening.{Opening}
 use Rattle.smc_core.specs.declared.op.Op.{Op}
+use Rattle.smc_core.specs.declared.op.Op.TheVariants.{Load, Store, Exchange, MarkGone}
 use Rattle.smc_core.specs.declared.word.Word.{Word}
 use Rattle.smc_core.specs.Machine.{Machine, IsOpening, IsOpened, Reach}
-use Rattle.smc_core.specs.Row.{row_shows}
+use Rattle.smc_core.specs.Row.{number_at, place_of, row_shows}
 use Rattle.smc_region.specs.declared.law.View.{View}
 
 -- steps lead to this row and these local states from a region that opened so, without objects
@@ -29,7 +31,23 @@ pub record From (view : View) : Type 0 where
   pub reached : IsReached view.shape opening machine.row machine.locals
   pub stands : AllByRecursion (StandsIn machine.locals) view.locals
 
--- and there the operation shows this word
+-- what a step rests on: such a state, or nothing where it loads the epoch, as the first step of a call outside a section does
+abbrev pub RestsOn : View → Op → Type 0
+RestsOn view op = From view ⊎ (op ≡ Load place.Epoch)
+
+-- some state that is reached has the local states of this view, and there the operation shows this word
 pub record Saw (view : View) (op : Op) (w : Word) : Type 0 where
   pub from : From view
   pub is : w ≡ row_shows view.shape op from.machine.row
+
+-- the number of a word that an operation answers: what it found there, and 0 where it stored
+abbrev pub answered_number : Op → ℕ → ℕ
+answered_number (Load there) number = number
+answered_number (Store there w) number = 0
+answered_number (Exchange there expect w) number = number
+answered_number (MarkGone coll entry) number = number
+
+-- some state that is reached has the local states of this view, and there the operation answers this number
+pub record Showed (view : View) (op : Op) (number : ℕ) : Type 0 where
+  pub from : From view
+  pub is : number ≡ answered_number op (number_at view.shape from.machine.row (place_of op))

@@ -68,7 +68,7 @@ impl<'r> Section<'r> {
         let own = Op::Load {
             place: Place::Section { pass: self.number },
         };
-        self.act(Chosen::Look { number }, own);
+        self.take(Chosen::Look { number }, own);
         None
     }
 
@@ -88,7 +88,7 @@ impl<'r> Section<'r> {
                 entry: number.entry,
             },
         };
-        match self.act(Chosen::Look { number }, load).state() {
+        match self.take(Chosen::Look { number }, load).state() {
             State::Present { incarnation, slot } => {
                 if incarnation == number.incarnation {
                     Some(slot)
@@ -136,7 +136,7 @@ impl<'r> Section<'r> {
             expect: frozen,
             put: Word::Entry(State::Present { incarnation, slot }),
         };
-        let seen = self.act(Chosen::Go, exchange);
+        let seen = self.take(Chosen::Go, exchange);
         if seen.same(frozen) {
             return Some(slot);
         }

@@ -25,13 +25,13 @@ impl<'r> Section<'r> {
         let load = Op::Load {
             place: Place::Forward { coll, slot },
         };
-        let target = self.act(Chosen::Go, load).forward();
+        let target = self.take(Chosen::Go, load).forward();
         let width = self.region.about.shape.width(coll);
         for field in 0..width {
             let load = Op::Load {
                 place: Place::Field { coll, slot, field },
             };
-            let value = self.act(Chosen::Go, load).plain();
+            let value = self.take(Chosen::Go, load).plain();
             let put = Op::Exchange {
                 place: Place::Field {
                     coll,
@@ -41,7 +41,7 @@ impl<'r> Section<'r> {
                 expect: Word::Plain(BLANK),
                 put: Word::Plain(value),
             };
-            self.act(Chosen::Go, put);
+            self.take(Chosen::Go, put);
         }
         target
     }
@@ -67,7 +67,7 @@ impl<'r> Section<'r> {
                 slot: target,
             }),
         };
-        let seen = self.act(Chosen::Go, swing);
+        let seen = self.take(Chosen::Go, swing);
         if seen.same(locked) {
             return Some(target);
         }

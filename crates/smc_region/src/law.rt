@@ -66,10 +66,10 @@ pub struct Acts<C> {
 impl<C: Choosing> Play<(), View> for Acts<C> {
     ghost use Rattle.std.specs.Prelude.{◌≡◌};
     ghost use Rattle.smc_core.specs.Row.{shown};
-    ghost use Rattle.smc_region.specs.Reached.{From, Saw};
+    ghost use Rattle.smc_region.specs.Reached.{From, Showed, answered_number};
     ghost use Rattle.smc_region.specs.Views.{view_after};
 
-    ghost then = { λ step me found me'. (me' ≡ (view_after C.choice 0 (shown C.op found) me.0, me.1)) × Saw me.0 C.op (shown C.op found) × From me'.0 };
+    ghost then = { λ step me found me'. (me' ≡ (view_after C.choice 0 (shown C.op found) me.0, me.1)) × Showed me.0 C.op (answered_number C.op found) × From me'.0 };
 }
 
 /// A pass goes to a seat of its own.
@@ -90,6 +90,28 @@ impl Join<View> for Gather {
     ghost use Rattle.smc_region.specs.Views.{gathered, spent};
 
     ghost both = { gathered };
+
+    ghost spent = { spent };
+}
+
+/// A pass makes a note, which goes to a seat of its own.
+pub struct Notes;
+
+impl Split<View> for Notes {
+    ghost use Rattle.smc_region.specs.Views.{note_of, noting};
+
+    ghost left = { noting };
+
+    ghost right = { note_of };
+}
+
+/// The seat of a pass takes a note in, and the pass learns it.
+pub struct Learns;
+
+impl Join<View> for Learns {
+    ghost use Rattle.smc_region.specs.Views.{learning, spent};
+
+    ghost both = { learning };
 
     ghost spent = { spent };
 }

@@ -25,13 +25,12 @@ pub struct Pass {
 impl Model for Pass {
     ghost use Rattle.std.specs.Prelude.{◌≡◌, length};
     ghost use Rattle.smc_region.specs.Callers.{Caller, IsOutside, IsSeatOf, caller_of};
-    ghost use Rattle.smc_region.specs.Reached.{From};
 
     ghost Value = { Caller };
 
     ghost view = { λ p. caller_of p.number p.seat.table_id p.seat.me };
 
-    ghost invariant = { λ p. IsSeatOf p.number p.seat.me × From p.seat.me.0 × IsOutside (caller_of p.number p.seat.table_id p.seat.me).local
+    ghost invariant = { λ p. IsSeatOf p.number p.seat.me × IsOutside (caller_of p.number p.seat.table_id p.seat.me).local
         × (p.cursors.items ≡ (caller_of p.number p.seat.table_id p.seat.me).local.cursors)
         × (length p.cursors.items ≡ length p.seat.me.0.shape.colls) };
 }
@@ -77,11 +76,11 @@ impl Pass {
         };
         step(region, &mut seat, Chosen::Go, announce);
         let epoch = step(region, &mut seat, Chosen::Go, load).plain();
-        let announce = Op::Store {
+        let settle = Op::Store {
             place: own,
             word: Word::Plain(epoch),
         };
-        step(region, &mut seat, Chosen::Go, announce);
+        step(region, &mut seat, Chosen::Go, settle);
         let load = Op::Load {
             place: Place::Round,
         };

@@ -3,7 +3,7 @@ ghost use Rattle.std.specs.Prelude.{◌≡◌, Some};
 ghost use Rattle.smc_shape.specs.Layout.{IsShape, words_of};
 ghost use Rattle.smc_core.specs.Row.{OpFits};
 ghost use Rattle.smc_region.specs.Choices.{seat_choice};
-ghost use Rattle.smc_region.specs.Reached.{From, Saw};
+ghost use Rattle.smc_region.specs.Reached.{From, RestsOn, Saw};
 ghost use Rattle.smc_region.specs.Rule.{IsOwn};
 ghost use Rattle.smc_region.specs.Views.{IsAlone, view_after, view_op};
 
@@ -25,6 +25,7 @@ pub struct Region {
     pub ghost sized: { table.shared.table_id.words ≡ words_of about.shape },
     pub ghost no_slots: { table.shared.table_id.slots ≡ 0 },
     pub ghost keyed: { table.shared.key ≡ about },
+    pub ghost valid: { IsShape about.shape },
 }
 
 impl Region {
@@ -89,7 +90,7 @@ pub(crate) fn step(region: &Region, seat: &mut Seat<(), View>, chosen: Chosen<'_
     requires own { IsOwn (seat_choice seat.old.me.0 chosen) }
     requires here { seat.old.table_id ≡ region.now.table.shared.table_id }
     requires shape { seat.old.me.0.shape ≡ region.now.about.shape }
-    requires from { From seat.old.me.0 }
+    requires rests { RestsOn seat.old.me.0 op }
     requires alone { IsAlone seat.old.me }
     requires offers { view_op seat.old.me.0 (seat_choice seat.old.me.0 chosen) ≡ Some op }
     ensures same { (seat.new.table_id ≡ seat.old.table_id) × (seat.new.id ≡ seat.old.id) }

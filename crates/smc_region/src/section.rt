@@ -1,5 +1,7 @@
 //! A pass inside a section.
-ghost use Rattle.std.specs.Prelude.{◌≡◌, ◌<◌, Some, length, slice_get};
+ghost use Rattle.std.specs.Prelude.{◌≡◌, ◌<◌, Some, length, slice_get, slice_set};
+ghost use Rattle.smc_shape.specs.Layout.{slots_of};
+ghost use Rattle.smc_core.specs.Ripe.{next_round};
 ghost use Rattle.smc_core.specs.declared.phase.Phase.TheVariants.{Idle};
 ghost use Rattle.smc_core.specs.declared.section.Section.TheVariants.{Inside};
 ghost use Rattle.smc_core.specs.Local.{after};
@@ -53,7 +55,7 @@ impl<'r> Model for Section<'r> {
 
 /// How many scans a section has begun after this choice.
 #[inline(always)]
-fn scans_with(scans: u32, chosen: Chosen<'_>) -> u32
+pub(crate) fn scans_with(scans: u32, chosen: Chosen<'_>) -> u32
     requires { MayBegin scans chosen }
     ensures { result ≡ scans_with scans chosen.entry }
 {
@@ -61,6 +63,23 @@ fn scans_with(scans: u32, chosen: Chosen<'_>) -> u32
         Chosen::Scan { .. } => scans + 1,
         _ => scans,
     }
+}
+
+/// The cursor of the collection goes behind the slot.
+#[inline(always)]
+pub(crate) fn move_behind(shape: &Shape, cursors: &mut Vec<u32>, coll: u8, slot: u32)
+    requires within { coll < length shape.now.colls }
+    requires long { length cursors.old.items ≡ length shape.now.colls }
+    ensures moved { cursors.new.items ≡ slice_set cursors.old.items coll (next_round (slots_of shape.now coll) slot) }
+    ensures long { length cursors.new.items ≡ length cursors.old.items }
+{
+    let slots = shape.slots(coll);
+    let next = if slot < slots && slot + 1 < slots {
+        slot + 1
+    } else {
+        0
+    };
+    cursors[usize::from(coll)] = next;
 }
 
 /// The cursors after an operation: the store of a new object leaves its collection's behind its slot.
@@ -76,19 +95,14 @@ fn move_cursor(shape: &Shape, cursors: &mut Vec<u32>, op: Op)
         word: Word::Entry(State::Present { slot, .. }),
     } = op
     {
-        let next = if slot + 1 < shape.slots(coll) {
-            slot + 1
-        } else {
-            0
-        };
-        cursors[usize::from(coll)] = next;
+        move_behind(shape, cursors, coll, slot);
     }
 }
 
 impl<'r> Section<'r> {
     /// One atomic step: the one that the pass offers for this choice. Answers the word that it was shown.
     #[inline(always)]
-    pub fn act(&mut self, chosen: Chosen<'_>, op: Op) -> Word
+    pub fn take(&mut self, chosen: Chosen<'_>, op: Op) -> Word
         requires within { IsWithin (choice_of self.old.local.stand.scans chosen) }
         requires offered { op_of (local_offer self.old.shape self.old.number self.old.local (choice_of self.old.local.stand.scans chosen)) ≡ Some op }
         requires scans { MayBegin (length self.old.local.stand.scans) chosen }

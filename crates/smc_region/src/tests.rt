@@ -1,9 +1,11 @@
-ghost use Rattle.std.specs.Prelude.{◌≡◌, ◌+◌, ◌*◌, ◌∷◌, [], IfOk, IfSome, length};
+ghost use Rattle.std.specs.Prelude.{◌≡◌, ◌≢◌, ◌+◌, ◌*◌, ◌<◌, ◌∷◌, [], IfOk, IfSome, length};
 ghost use Rattle.smc_shape.specs.Layout.{asked};
-ghost use Rattle.smc_region.specs.Callers.{IsPassOf};
+ghost use Rattle.smc_core.specs.declared.phase.Phase.TheVariants.{Idle};
+ghost use Rattle.smc_region.specs.Callers.{IsPassOf, IsSame};
+ghost use Rattle.smc_region.specs.Notes.{IsNoteOf};
 ghost use Rattle.smc_region.specs.Reached.{IsReached};
 
-use crate::{Advance, Pass, Quiet, Region};
+use crate::{Act, Advance, Chosen, Note, Pass, Quiet, Region, Section};
 use smc_core::{LAST_EPOCH, Opening};
 use smc_shape::{CollShape, Shape};
 use smc_words::{NoMemory, Number};
@@ -67,6 +69,45 @@ fn work_both<R: Threads + Sync>(
         || work(region, first, rounds),
         || work(region, second, rounds),
     )
+}
+
+/// Works so, and then makes a note.
+fn work_and_note(region: &Region, pass: Pass, rounds: u32) -> (Pass, Note)
+    requires { IsPassOf region.now pass }
+    ensures here { IsPassOf region.now result.0 × (result.0.number ≡ pass.number) }
+    ensures note { IsNoteOf region.now result.1 × (result.1.pass ≡ pass.number) }
+    ensures log { length result.1.log ≡ length pass.local.log + 2 * rounds }
+    ensures made { length result.0.local.notes ≡ result.1.number + 1 }
+{
+    let (mut pass, _) = work(region, pass, rounds);
+    let note = pass.note(region);
+    (pass, note)
+}
+
+/// The first pass works in a thread of its own, and the second one learns what the first has seen.
+fn work_and_learn<R: Threads + Sync>(
+    rt: &R,
+    region: &Region,
+    first: Pass,
+    second: Pass,
+    rounds: u32,
+) -> (Pass, Pass, u32)
+    requires first { IsPassOf region.now first }
+    requires second { IsPassOf region.now second }
+    requires two { first.number ≢ second.number }
+    ensures first { IsPassOf region.now result.0 × (result.0.number ≡ first.number) }
+    ensures second { IsPassOf region.now result.1 × (result.1.number ≡ second.number) }
+    ensures events { length result.1.local.log ≡ length second.local.log + 2 * rounds + 1 }
+    ensures told { result.2 ≡ first.number }
+{
+    let ((first, note), (mut second, _)) = join(
+        rt,
+        || work_and_note(region, first, rounds),
+        || work(region, second, rounds),
+    );
+    let told = note.pass();
+    second.learn(region, note);
+    (first, second, told)
 }
 
 /// The region is closed with its two passes.
@@ -180,6 +221,77 @@ fn a_closed_region_has_what_its_passes_left(rt: HostRuntime) -> Result<(), NoMem
     assert_eq!(rt; epoch, one.wrapping_add(other).wrapping_add(2));
     assert_eq!(rt; (round, quiet.word(2), quiet.word(3)), (0, 0, 0));
     assert_eq!(rt; quiet.shape().passes(), 2);
+    quiet.free();
+    Ok(())
+}
+
+#[test]
+fn a_note_of_another_thread_is_learnt_and_one_is_left_over(
+    rt: HostRuntime,
+) -> Result<(), NoMemory> {
+    let alloc = rt.alloc();
+    let Some(shape) = small(alloc) else {
+        return Err(NoMemory);
+    };
+    let (region, mut passes) = Region::open(alloc, shape, Opening::plain())?;
+    let Some(second) = passes.pop() else {
+        return Err(NoMemory);
+    };
+    let Some(first) = passes.pop() else {
+        return Err(NoMemory);
+    };
+    let (first, mut second, told) = work_and_learn(&rt, &region, first, second, 10);
+    assert_eq!(rt; told, 0);
+    let spare = second.note(&region);
+    let quiet = close_two(alloc, region, first, second)?;
+    assert!(rt; quiet.shape().words() > 3);
+    assert_eq!(rt; (quiet.word(1), quiet.word(2), quiet.word(3)), (0, 0, 0));
+    assert_eq!(rt; spare.pass(), 1);
+    quiet.free();
+    Ok(())
+}
+
+/// Begins a scan by numbers, which loads the own section word. Answers what it found there.
+fn begin_scan(section: &mut Section<'_>) -> u64
+    requires idle { section.old.local.stand.phase ≡ Idle }
+    requires pass { section.old.number < section.old.shape.passes }
+    requires coll { 0 < length section.old.shape.colls }
+    requires first { length section.old.local.stand.scans ≡ 0 }
+    ensures same { IsSame section.old section.new }
+    ensures idle { section.new.local.stand.phase ≡ Idle }
+    ensures scans { length section.new.local.stand.scans ≡ 1 }
+{
+    let _ = section.calm();
+    let word = section.region().shape().section_at(section.pass());
+    let load = Act {
+        kind: 8,
+        word,
+        expect: 0,
+        put: 0,
+    };
+    section.act(Chosen::Scan { coll: 0 }, load)
+}
+
+#[test]
+fn a_step_by_numbers_answers_the_number_of_its_word(rt: HostRuntime) -> Result<(), NoMemory> {
+    let alloc = rt.alloc();
+    let Some(shape) = small(alloc) else {
+        return Err(NoMemory);
+    };
+    let (region, mut passes) = Region::open(alloc, shape, Opening::plain())?;
+    let Some(second) = passes.pop() else {
+        return Err(NoMemory);
+    };
+    let Some(first) = passes.pop() else {
+        return Err(NoMemory);
+    };
+    let mut section = first.enter(&region);
+    assert_eq!(rt; begin_scan(&mut section), 2);
+    assert_eq!(rt; section.scans(), 1);
+    let first = section.leave();
+    let quiet = close_two(alloc, region, first, second)?;
+    assert!(rt; quiet.shape().words() > 3);
+    assert_eq!(rt; (quiet.word(2), quiet.word(3)), (0, 0));
     quiet.free();
     Ok(())
 }

@@ -4,9 +4,8 @@ use Rattle.atomic_table.specs.Table.{Me}
 use Rattle.smc_core.specs.Machine.{IsOpened}
 use Rattle.smc_region.specs.declared.law.View.{View}
 use Rattle.smc_region.specs.Callers.{new_caller}
-use Rattle.smc_region.specs.Reached.{From}
 use Rattle.smc_region.specs.Views.{sole}
-use Rattle.smc_region.proofs.Deals.{opens_rule, first_from, deal_step, deal_front, deal_behind, new_seat, push_at, new_caller_is, new_outside, some_words}
+use Rattle.smc_region.proofs.Deals.{opens_rule, deal_step, deal_front, deal_behind, new_seat, push_at, new_caller_is, new_outside, some_words}
 use Rattle.smc_region.proofs.region.Region.open.Goals as goal
 
 pub of_words-requires : goal.of_words-requires
@@ -33,10 +32,8 @@ invariant_of-push c =
     let number = c.loop-number.number in
     let me = c.split_seat-seat.result.me in
     let front = deal_front shape number c.loop-number.rest.me me c.loop-number.invariant.rest below c.split_seat-seat.ensures.4 in
-    let opened : IsOpened shape c.args.opening c.in_ok-words.words.items = c.in_ok-words.ensures.opened in
     let here = λ (m : Me (Unit {0}) View). length m.0.shape.colls in (
       new_seat shape number me front below,
-      subst (λ (m : Me (Unit {0}) View). From m.0) (sym front) (first_from shape c.args.opening c.in_ok-words.words.items number c.passes-count.ensures.valid c.requires opened below),
       new_outside shape number me front,
       c.in_ok-cursors.ensures ∙ ap (λ (m : Me (Unit {0}) View). (sole m.0.shape m.0.locals).cursors) (sym front),
       ap length c.in_ok-cursors.ensures ∙ (length-replicate (length shape.colls) 0 ∙ ap here (sym front)),
