@@ -1,20 +1,25 @@
-//! A bench, which `bench/act.sh` reads: enters and leaves a section ten million times, and has a loop
-//! that loads the fields of an object, of which the machine code is looked at.
+//! A bench, which `bench/act.sh` reads: enters and leaves a section, and loads the fields of an object, so many times that
+//! the machine code of both loops can be timed and counted.
 //!
+//! With `sections` it does the first ten million times, with another word the second; with none each a thousand times.
 //! Nothing stands on it.
 #![tactic(auto)]
 
-ghost use Rattle.std.specs.Prelude.{◌≡◌, ◌<◌, Some};
-ghost use Rattle.smc_shape.specs.Layout.{width_of};
-ghost use Rattle.smc_core.specs.declared.phase.Phase.TheVariants.{Idle};
+ghost use Rattle.std.specs.Prelude.{◌≡◌, ◌<◌, ◌∷◌, [], IsTrue, IfOk, Some, length};
+ghost use Rattle.smc_shape.specs.Layout.{asked, width_of};
+ghost use Rattle.smc_core.specs.declared.phase.Phase.TheVariants.{Idle, Add};
+ghost use Rattle.smc_core.specs.declared.phase.objects.AddPhase.TheVariants.{StoreBack};
+ghost use Rattle.smc_core.specs.Add.{takes};
 ghost use Rattle.smc_core.specs.Offer.{held_slot};
+ghost use Rattle.smc_rules.specs.Reads.{object};
 ghost use Rattle.smc_region.specs.Callers.{IsPassOf, IsSame};
 
-use smc_core::{Op, Opening};
+use smc_core::{Op, Opening, State, Word};
 use smc_region::{Chosen, Held, Pass, Region, Section};
 use smc_shape::{CollShape, Place, Shape};
-use smc_words::Number;
-use std::alloc::AllocError;
+use smc_words::{Dir, Number};
+use std::alloc::{AllocError, Global};
+use std::env;
 
 /// Enters and leaves so many times.
 #[inline(never)]
@@ -59,8 +64,104 @@ fn read_fields(section: &mut Section<'_>, held: Held, width: u32, turns: u32) ->
     sum
 }
 
-fn main(rt: HostRuntime) -> Result<(), AllocError> {
-    let alloc = rt.alloc();
+/// The words of an add in progress of a region's first object: its first slot and its first entry are claimed.
+fn claim_first(section: &mut Section<'_>, words: &[u64]) -> bool
+    requires idle { section.old.local.stand.phase ≡ Idle }
+    requires takes { IsTrue (takes section.old.shape 0 0 words.now) }
+    ensures same { IsSame section.old section.new }
+    ensures claimed { IsTrue result → section.new.local.stand.phase ≡ Add (StoreBack 0 (object 1 0 0)) }
+    ensures words { IsTrue result → section.new.local.stand.words ≡ words.now }
+{
+    let slot = Place::Directory { coll: 0, slot: 0 };
+    let entry = Place::Entry { coll: 0, entry: 0 };
+    let free = Word::Directory(Dir::Free);
+    let blank = Word::Entry(State::Free {
+        incarnation: 0,
+        stamp: 0,
+    });
+    let add = Chosen::Add {
+        coll: 0,
+        from: 0,
+        words,
+    };
+    let _ = section.calm();
+    if section.epoch() < 2 || !section.take(add, Op::Load { place: slot }).same(free) {
+        return false;
+    }
+    let claim = Op::Exchange {
+        place: slot,
+        expect: free,
+        put: Word::Directory(Dir::Claimed),
+    };
+    if !section.take(Chosen::Go, claim).same(free) {
+        return false;
+    }
+    if !section
+        .act(Chosen::Go, Op::Load { place: entry })
+        .same(blank)
+    {
+        return false;
+    }
+    let claim = Op::Exchange {
+        place: entry,
+        expect: blank,
+        put: Word::Entry(State::Claimed { incarnation: 1 }),
+    };
+    section.take(Chosen::Go, claim).same(blank)
+}
+
+/// Goes on with that add to its end.
+fn store_first(section: &mut Section<'_>, words: &[u64])
+    requires claimed { section.old.local.stand.phase ≡ Add (StoreBack 0 (object 1 0 0)) }
+    requires words { section.old.local.stand.words ≡ words.now }
+    requires width { length words.now ≡ width_of section.old.shape 0 }
+    ensures same { IsSame section.old section.new }
+    ensures idle { section.new.local.stand.phase ≡ Idle }
+{
+    let number = Number {
+        incarnation: 1,
+        entry: 0,
+        coll: 0,
+    };
+    let _ = section.calm();
+    let own = Op::Store {
+        place: Place::Back { coll: 0, slot: 0 },
+        word: Word::Back(Some(number)),
+    };
+    section.take(Chosen::Go, own);
+    let mut field = 0;
+    for word in words {
+        let store = Op::Store {
+            place: Place::Field {
+                coll: 0,
+                slot: 0,
+                field,
+            },
+            word: Word::Plain(*word),
+        };
+        section.take(Chosen::Go, store);
+        field += 1;
+    }
+    let valid = Op::Store {
+        place: Place::Directory { coll: 0, slot: 0 },
+        word: Word::Directory(Dir::Valid),
+    };
+    section.take(Chosen::Go, valid);
+    let live = Op::Store {
+        place: Place::Entry { coll: 0, entry: 0 },
+        word: Word::Entry(State::Present {
+            incarnation: 1,
+            slot: 0,
+        }),
+    };
+    section.take(Chosen::Go, live);
+}
+
+/// Opens a region of two passes and one collection of 64 slots and 8 fields, and gives its last pass.
+fn open(alloc: Global) -> Result<(Region, Pass), AllocError>
+    ensures { IfOk result (λ opened. IsPassOf opened.0 opened.1
+        × (opened.0.about.shape ≡ asked 2 (record { width = 8; slots = 64 } ∷ []))) }
+{
     let colls = Vec::from_slice(
         alloc,
         &[CollShape {
@@ -77,19 +178,43 @@ fn main(rt: HostRuntime) -> Result<(), AllocError> {
     let Some(pass) = passes.pop() else {
         return Err(AllocError);
     };
-    let pass = enter_and_leave(&region, pass, 10_000_000);
-    let mut section = pass.enter(&region);
+    Ok((region, pass))
+}
+
+/// Reads an object of the words 0 to 7 so many times, and answers the sum.
+fn add_and_read(region: &Region, pass: Pass, turns: u32) -> Option<u64>
+    requires here { IsPassOf region.now pass }
+    requires shape { region.now.about.shape ≡ asked 2 (record { width = 8; slots = 64 } ∷ []) }
+{
+    let words = [0, 1, 2, 3, 4, 5, 6, 7];
+    let mut section = pass.enter(region);
+    if !claim_first(&mut section, &words) {
+        return None;
+    }
+    store_first(&mut section, &words);
     let number = Number {
         incarnation: 1,
-        entry: 3,
+        entry: 0,
         coll: 0,
     };
-    if let Some(held) = section.deref(number) {
-        let width = section.region().shape().width(0);
-        let sum = read_fields(&mut section, held, width, 10_000_000);
-        if sum != 0 {
-            return Err(AllocError);
-        }
+    let held = section.deref(number)?;
+    let width = section.region().shape().width(0);
+    Some(read_fields(&mut section, held, width, turns))
+}
+
+fn main(rt: HostRuntime) -> Result<(), AllocError> {
+    let Ok(mut words) = env::args(&rt) else {
+        return Err(AllocError);
+    };
+    let (sections, turns) = match words.nth(1) {
+        None => (1_000, 1_000),
+        Some(what) if what.as_str() == "sections" => (10_000_000, 0),
+        Some(_) => (0, 10_000_000),
+    };
+    let (region, pass) = open(rt.alloc())?;
+    let pass = enter_and_leave(&region, pass, sections);
+    match add_and_read(&region, pass, turns) {
+        Some(sum) if sum == u64::from(turns) * 28 => Ok(()),
+        _ => Err(AllocError),
     }
-    Ok(())
 }

@@ -176,11 +176,11 @@ fn coll_at(shape: &Shape, word: usize) -> Option<u8>
 }
 
 /// The cursors after a step by numbers.
-fn move_cursor_by(shape: &Shape, cursors: &mut Vec<u32>, act: Act)
-    requires long { length cursors.old.items ≡ length shape.now.colls }
+fn move_cursor_by(shape: &Shape, cursors: &mut Box<Vec<u32>>, act: Act)
+    requires long { length cursors.old.value.items ≡ length shape.now.colls }
     ensures moved { (op : Op) → OpFits shape.now op → act ≡ act_by shape.now act.kind op → IsOfKind act.kind op
-        → cursors.new.items ≡ cursors_by shape.now cursors.old.items op }
-    ensures long { length cursors.new.items ≡ length cursors.old.items }
+        → cursors.new.value.items ≡ cursors_by shape.now cursors.old.value.items op }
+    ensures long { length cursors.new.value.items ≡ length cursors.old.value.items }
 {
     if act.kind != LIVE_KIND {
         return;

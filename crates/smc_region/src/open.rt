@@ -14,12 +14,12 @@ use smc_words::NoMemory;
 use std::alloc::Global;
 
 /// A cursor at the first slot of each collection.
-fn first_cursors(alloc: Global, shape: &Shape) -> Result<Vec<u32>, NoMemory>
-    ensures { IfOk result (λ cursors. cursors.items ≡ replicate (length shape.now.colls) 0) }
+fn first_cursors(alloc: Global, shape: &Shape) -> Result<Box<Vec<u32>>, NoMemory>
+    ensures { IfOk result (λ cursors. cursors.value.items ≡ replicate (length shape.now.colls) 0) }
 {
     let mut cursors = Vec::new(alloc);
     cursors.resize(shape.colls() as usize, 0)?;
-    Ok(cursors)
+    Ok(Box::new(alloc, cursors)?)
 }
 
 impl Region {

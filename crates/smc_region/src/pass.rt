@@ -16,9 +16,9 @@ use std::marker::Model;
 /// One caller's right to use a region. Contracts see it as its table, its number and what it knows.
 #[derive(Drop)]
 pub struct Pass {
+    /// For each collection the slot behind that of the latest object added. One pointer, so that a pass moves in registers.
+    pub(crate) cursors: Box<Vec<u32>>,
     pub(crate) number: u32,
-    /// For each collection the slot behind that of the latest object added.
-    pub(crate) cursors: Vec<u32>,
     pub(crate) seat: Seat<(), View>,
 }
 
@@ -31,8 +31,8 @@ impl Model for Pass {
     ghost view = { λ p. caller_of p.number p.seat.table_id p.seat.me };
 
     ghost invariant = { λ p. IsSeatOf p.number p.seat.me × IsOutside (caller_of p.number p.seat.table_id p.seat.me).local
-        × (p.cursors.items ≡ (caller_of p.number p.seat.table_id p.seat.me).local.cursors)
-        × (length p.cursors.items ≡ length p.seat.me.0.shape.colls) };
+        × (p.cursors.value.items ≡ (caller_of p.number p.seat.table_id p.seat.me).local.cursors)
+        × (length p.cursors.value.items ≡ length p.seat.me.0.shape.colls) };
 }
 
 /// A section is calm where it sees no round, or one whose bound it is not past.

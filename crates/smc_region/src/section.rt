@@ -27,12 +27,12 @@ use std::marker::Model;
 #[derive(Drop)]
 pub struct Section<'r> {
     pub(crate) region: &'r Region,
-    pub(crate) number: u32,
+    pub(crate) cursors: Box<Vec<u32>>,
     pub(crate) epoch: u64,
-    pub(crate) calm: bool,
+    pub(crate) number: u32,
     /// How many scans the section has begun.
     pub(crate) scans: u32,
-    pub(crate) cursors: Vec<u32>,
+    pub(crate) calm: bool,
     pub(crate) seat: Seat<(), View>,
 }
 
@@ -49,8 +49,8 @@ impl<'r> Model for Section<'r> {
     ghost invariant = { λ p. IsSeatOf p.number p.seat.me × From p.seat.me.0 × IsPassOf p.region.now (caller_of p.number p.seat.table_id p.seat.me)
         × ((caller_of p.number p.seat.table_id p.seat.me).local.stand.section ≡ section.Inside p.epoch p.calm)
         × (length (caller_of p.number p.seat.table_id p.seat.me).local.stand.scans ≡ p.scans)
-        × (p.cursors.items ≡ (caller_of p.number p.seat.table_id p.seat.me).local.cursors)
-        × (length p.cursors.items ≡ length p.seat.me.0.shape.colls) };
+        × (p.cursors.value.items ≡ (caller_of p.number p.seat.table_id p.seat.me).local.cursors)
+        × (length p.cursors.value.items ≡ length p.seat.me.0.shape.colls) };
 }
 
 /// How many scans a section has begun after this choice.
@@ -67,11 +67,11 @@ pub(crate) fn scans_with(scans: u32, chosen: Chosen<'_>) -> u32
 
 /// The cursor of the collection goes behind the slot.
 #[inline(always)]
-pub(crate) fn move_behind(shape: &Shape, cursors: &mut Vec<u32>, coll: u8, slot: u32)
+pub(crate) fn move_behind(shape: &Shape, cursors: &mut Box<Vec<u32>>, coll: u8, slot: u32)
     requires within { coll < length shape.now.colls }
-    requires long { length cursors.old.items ≡ length shape.now.colls }
-    ensures moved { cursors.new.items ≡ slice_set cursors.old.items coll (next_round (slots_of shape.now coll) slot) }
-    ensures long { length cursors.new.items ≡ length cursors.old.items }
+    requires long { length cursors.old.value.items ≡ length shape.now.colls }
+    ensures moved { cursors.new.value.items ≡ slice_set cursors.old.value.items coll (next_round (slots_of shape.now coll) slot) }
+    ensures long { length cursors.new.value.items ≡ length cursors.old.value.items }
 {
     let slots = shape.slots(coll);
     let next = if slot < slots && slot + 1 < slots {
@@ -84,11 +84,11 @@ pub(crate) fn move_behind(shape: &Shape, cursors: &mut Vec<u32>, coll: u8, slot:
 
 /// The cursors after an operation: the store of a new object leaves its collection's behind its slot.
 #[inline(always)]
-fn move_cursor(shape: &Shape, cursors: &mut Vec<u32>, op: Op)
+fn move_cursor(shape: &Shape, cursors: &mut Box<Vec<u32>>, op: Op)
     requires fits { OpFits shape.now op }
-    requires long { length cursors.old.items ≡ length shape.now.colls }
-    ensures moved { cursors.new.items ≡ cursors_by shape.now cursors.old.items op }
-    ensures long { length cursors.new.items ≡ length cursors.old.items }
+    requires long { length cursors.old.value.items ≡ length shape.now.colls }
+    ensures moved { cursors.new.value.items ≡ cursors_by shape.now cursors.old.value.items op }
+    ensures long { length cursors.new.value.items ≡ length cursors.old.value.items }
 {
     if let Op::Store {
         place: Place::Entry { coll, .. },

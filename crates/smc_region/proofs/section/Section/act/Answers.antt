@@ -32,9 +32,9 @@ invariant_of-self c =
     let kind = kind_of v.shape v.number v.local choice act offered refl c.requires.offered in
     let moved = c.move_cursor_by.ensures.moved op fits is kind in
     let w = shown (op_in (sole_offer x.seat.me.0 (seat_choice x.seat.me.0 c.args.chosen))) c.step_by-number.result in
-    let a = agrees-after x.region.now.about.shape x.number x.seat.table_id x.seat.me new.me v c.args.chosen op w x.epoch x.calm x.scans x.cursors.items c.move_cursor_by.new.cursors.items
+    let a = agrees-after x.region.now.about.shape x.number x.seat.table_id x.seat.me new.me v c.args.chosen op w x.epoch x.calm x.scans x.cursors.value.items c.move_cursor_by.new.cursors.value.items
     c.self.view_is record { seat = i.0; shape = i.2.1; section = i.3; scans = i.4; cursors = i.5 } c.requires.within offers
-    c.step_by-number.ensures.after (moved ∙ ap (λ (t : Layout). cursors_by t x.cursors.items op) (sym i.2.1)) in (
+    c.step_by-number.ensures.after (moved ∙ ap (λ (t : Layout). cursors_by t x.cursors.value.items op) (sym i.2.1)) in (
       a.seat,
       c.step_by-number.ensures.stands,
       (c.step_by-number.ensures.same.0 ∙ i.2.0, a.shape),

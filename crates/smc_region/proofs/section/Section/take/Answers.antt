@@ -20,9 +20,9 @@ invariant_of-self c =
     let x = c.self.inside in
     let i = c.self.invariant in
     let new = c.step-word.new.seat in
-    let a = agrees-after c.self.inside.region.now.about.shape x.number x.seat.table_id x.seat.me new.me c.args.self.now c.args.chosen c.args.op c.step-word.result x.epoch x.calm x.scans x.cursors.items c.move_cursor.new.cursors.items
+    let a = agrees-after c.self.inside.region.now.about.shape x.number x.seat.table_id x.seat.me new.me c.args.self.now c.args.chosen c.args.op c.step-word.result x.epoch x.calm x.scans x.cursors.value.items c.move_cursor.new.cursors.value.items
     c.self.view_is record { seat = i.0; shape = i.2.1; section = i.3; scans = i.4; cursors = i.5 } c.requires.within c.requires.offered
-    c.step-word.ensures.after (c.move_cursor.ensures.moved ∙ ap (λ (t : Layout). cursors_by t x.cursors.items c.args.op) (sym i.2.1)) in (
+    c.step-word.ensures.after (c.move_cursor.ensures.moved ∙ ap (λ (t : Layout). cursors_by t x.cursors.value.items c.args.op) (sym i.2.1)) in (
       a.seat,
       c.step-word.ensures.stands,
       (c.step-word.ensures.same.0 ∙ i.2.0, a.shape),
