@@ -176,17 +176,17 @@ module _ (shape : Layout) (opening : Opening) (start : List ℕ) (pass since unt
           let before : length (log_of (logs_of m.locals) pass) < until = between.lacks_last in
           let least : until ≤ count = tells.1 in
           omega (arith, has_come, before, least)
-      tells_late log k (event.Add n c ws) same at tells = elim tells [ ]
-      tells_late log k (event.Look n x) same at tells = elim tells [ ]
-      tells_late log k (event.Read n f v) same at tells = elim tells [ ]
-      tells_late log k (event.Write n f v) same at tells = elim tells [ ]
-      tells_late log k (event.Remove n f) same at tells = elim tells [ ]
-      tells_late log k (event.Begin j c) same at tells = elim tells [ ]
-      tells_late log k (event.Visit j n) same at tells = elim tells [ ]
-      tells_late log k (event.End j) same at tells = elim tells [ ]
-      tells_late log k event.Enter same at tells = elim tells [ ]
-      tells_late log k event.Leave same at tells = elim tells [ ]
-      tells_late log k (event.Refused c x) same at tells = elim tells [ ]
+      tells_late log k (event.Add n c ws) same at tells = absurd tells
+      tells_late log k (event.Look n x) same at tells = absurd tells
+      tells_late log k (event.Read n f v) same at tells = absurd tells
+      tells_late log k (event.Write n f v) same at tells = absurd tells
+      tells_late log k (event.Remove n f) same at tells = absurd tells
+      tells_late log k (event.Begin j c) same at tells = absurd tells
+      tells_late log k (event.Visit j n) same at tells = absurd tells
+      tells_late log k (event.End j) same at tells = absurd tells
+      tells_late log k event.Enter same at tells = absurd tells
+      tells_late log k event.Leave same at tells = absurd tells
+      tells_late log k (event.Refused c x) same at tells = absurd tells
 
       -- so the log of this moment ends there
       ends_here : length l.log ≡ apart.count

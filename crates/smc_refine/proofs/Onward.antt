@@ -88,7 +88,7 @@ module _ (shape : Layout) (pass : ℕ) (l : Local) (choice : Choice) (o : Offer)
   enter-goes : (section : Section) (next : Phase) (choice : Choice) (a b : ℕ) → Tied section next a b → next ≡ phase.Entering → offer shape pass l.stand section next choice ≡ Some o
       → (((change shape pass l.stand section next choice told w).event ≡ None) × ((change shape pass l.stand section next choice told w).phase ≡ phase.Entering))
       ⊎ ((change shape pass l.stand section next choice told w).event ≡ Some Enter)
-  enter-goes section next choice a b t is can = let c = choice in subst (λ (k : Phase). Tied section k a b → offer shape pass l.stand section k choice ≡ Some o
+  enter-goes section next choice a b t is can = subst (λ (k : Phase). Tied section k a b → offer shape pass l.stand section k choice ≡ Some o
       → (((change shape pass l.stand section k choice told w).event ≡ None) × ((change shape pass l.stand section k choice told w).phase ≡ phase.Entering))
       ⊎ ((change shape pass l.stand section k choice told w).event ≡ Some Enter)) (sym is) (now section choice) t can
     where
