@@ -5,7 +5,7 @@ use Rattle.smc_tokens.specs.declared.token.Placed.{Placed}
 use Rattle.smc_query.specs.Machine.{Plan, must, Step, goes, wrong, opened, Outcome, stuck, too_deep, step, ended, outcome, is_mark, sees}
 use Rattle.smc_parse.specs.declared.fault.Fault.{Fault}
 use Rattle.smc_parse.specs.declared.fault.Fault.TheVariants.{Wrong, TooDeep}
-use Rattle.smc_parse.specs.Reading.{ahead, Stands, StopsBy, Leads, Stops, Reads, given}
+use Rattle.smc_parse.specs.Reading.{ahead, Stands, StopsBy, Leads, Stops, Misses, Reads, ReadsInPlace, given}
 use Rattle.smc_parse.proofs.AheadLaws.{Marked, marked-at}
 
 -- one lead after another
@@ -73,6 +73,10 @@ ended-must : (mark : Token) (next : Plan) → ended (must mark next) ≡ None
 unfolding ended
 ended-must mark next = refl
 
+-- where a token is wrong no memory was wanted
+pub at-token : {K : Type 0} (part : K → Plan) (placed : List Placed) (from index : ℕ) → Stops part placed from (Wrong index) → Misses part placed from (Wrong index)
+at-token part placed from index h = record { stops = h; of_tokens = λ same. let e = same in cc }
+
 -- a mark that must come is passed where it is seen
 pub must-leads : (placed : List Placed) (at : ℕ) (mark : Token) → sees mark (ahead placed at) ≡ true → Leads (must mark) (λ next. next) placed at (at + 1)
 must-leads placed at mark e =
@@ -84,8 +88,8 @@ must-leads placed at mark e =
     }
 
 -- and where it is not seen, its plan stops
-pub must-stops : (placed : List Placed) (at : ℕ) (mark : Token) → at ≤ length placed → sees mark (ahead placed at) ≡ false → Stops (must mark) placed at (Wrong at)
-must-stops placed at mark w e k = (w, mark-or-stuck (must mark k) k mark (ahead placed at) (λ t. unfolding-must mark t k) (ended-must mark k) e)
+pub must-stops : (placed : List Placed) (at : ℕ) (mark : Token) → at ≤ length placed → sees mark (ahead placed at) ≡ false → Misses (must mark) placed at (Wrong at)
+must-stops placed at mark w e = at-token (must mark) placed at at (λ k. (w, mark-or-stuck (must mark k) k mark (ahead placed at) (λ t. unfolding-must mark t k) (ended-must mark k) e))
 
 went : (plan next : Plan) (t : Token) (s : List Token) → step plan t ≡ goes next → outcome plan (t ∷ s) ≡ outcome next s
 unfolding outcome
@@ -110,6 +114,15 @@ then-leads f plan part after placed x y z h g = leads-on plan (λ k. part (f k))
 -- a part whose plan stops, where a plan goes on with it
 pub then-stops : {K L : Type 0} (f : K → L) (plan : K → Plan) (part : L → Plan) (placed : List Placed) (x y : ℕ) (fault : Fault) → Leads plan (λ k. part (f k)) placed x y → Stops part placed y fault → Stops plan placed x fault
 then-stops f plan part placed x y fault h g = stops-on plan (λ k. part (f k)) placed x y fault h (λ k. g (f k))
+
+-- the same where no memory was wanted
+pub then-misses : {K L : Type 0} (f : K → L) (plan : K → Plan) (part : L → Plan) (placed : List Placed) (x y : ℕ) (fault : Fault) → Leads plan (λ k. part (f k)) placed x y → Misses part placed y fault → Misses plan placed x fault
+then-misses f plan part placed x y fault h g = record { stops = then-stops f plan part placed x y fault h g.stops; of_tokens = g.of_tokens }
+
+-- what is read without memory is read
+pub in-place : {X T : Type 0} (part : (T → Plan) → Plan) (tree_of : X → T) (placed : List Placed) (from : ℕ) (result : Result (X × ℕ) Fault) → ReadsInPlace part tree_of placed from result → Reads part tree_of placed from result
+in-place part tree_of placed from (Ok found) h = h
+in-place part tree_of placed from (Err fault) h = h.stops
 
 -- where a mark is seen, its token takes the plan on
 pub leads-seen : {K : Type 0} (plan next : K → Plan) (placed : List Placed) (at : ℕ) (mark : Token) → sees mark (ahead placed at) ≡ true

@@ -7,8 +7,8 @@ use Rattle.smc_tokens.specs.declared.token.Placed.{Placed}
 use Rattle.smc_query.specs.Trees.{PathTree, ItemTree, KeyTree}
 use Rattle.smc_query.specs.Machine.{Plan, may, whole, name, names, paths, path, item, items, key, keys, goes, stuck, step, ended, outcome, is_mark}
 use Rattle.smc_parse.specs.declared.fault.Fault.TheVariants.{Wrong}
-use Rattle.smc_parse.specs.Reading.{ahead, names_none, wholes_none, Stands, Leads, Stops, given}
-use Rattle.smc_parse.proofs.LeadLaws.{Chooses, leads-step}
+use Rattle.smc_parse.specs.Reading.{ahead, names_none, wholes_none, Stands, Leads, Stops, Misses, given}
+use Rattle.smc_parse.proofs.LeadLaws.{Chooses, leads-step, at-token}
 
 -- ---- names
 
@@ -74,5 +74,5 @@ whole-stuck k (Number n zero ∷ s) e = cc
 whole-stuck k (Number n (suc m) ∷ s) e = refl
 whole-stuck k (_ ∷ s) e = refl
 
-pub whole-stops : (placed : List Placed) (at : ℕ) → at ≤ length placed → wholes_none (ahead placed at) ≡ true → Stops whole placed at (Wrong at)
-whole-stops placed at w e k = (w, whole-stuck k (ahead placed at) e)
+pub whole-stops : (placed : List Placed) (at : ℕ) → at ≤ length placed → wholes_none (ahead placed at) ≡ true → Misses whole placed at (Wrong at)
+whole-stops placed at w e = at-token whole placed at at (λ k. (w, whole-stuck k (ahead placed at) e))

@@ -8,10 +8,10 @@ use Rattle.smc_query.specs.Trees.{ExprTree, CondTree, PathTree, ItemTree, KeyTre
 use Rattle.smc_query.specs.Machine.{Plan, done, must, name, filter, by, sort, first, cond, expr, wrong, built, Outcome, step, ended, outcome}
 use Rattle.smc_parse.specs.declared.fault.Fault.{Fault}
 use Rattle.smc_parse.specs.declared.fault.Fault.TheVariants.{Wrong}
-use Rattle.smc_parse.specs.Reading.{tokens_of, ahead, Stands, StopsBy, Leads, Stops, given}
+use Rattle.smc_parse.specs.Reading.{tokens_of, ahead, Stands, StopsBy, Leads, Stops, Misses, given}
 use Rattle.smc_parse.specs.Parts.{item_list}
 use Rattle.smc_parse.specs.Texts.{HeadTree, head_plan, TailTree, tail_plan}
-use Rattle.smc_parse.proofs.LeadLaws.{then-leads, leads-with, stops-step}
+use Rattle.smc_parse.proofs.LeadLaws.{then-leads, leads-with, stops-step, at-token}
 
 -- ---- the end
 
@@ -19,8 +19,8 @@ done-step : (a : Answer) (t : Token) → step (done a) t ≡ wrong
 unfolding step
 done-step a t = refl
 
-pub more-stops : (placed : List Placed) (at : ℕ) (t : Token) → at ≤ length placed → Stands placed at t → Stops done placed at (Wrong at)
-more-stops placed at t w h = stops-step done placed at t w h (λ a. done-step a t)
+pub more-stops : (placed : List Placed) (at : ℕ) (t : Token) → at ≤ length placed → Stands placed at t → Misses done placed at (Wrong at)
+more-stops placed at t w h = at-token done placed at at (stops-step done placed at t w h (λ a. done-step a t))
 
 done-end : (a : Answer) → outcome (done a) [] ≡ built a
 unfolding outcome ended

@@ -1,5 +1,5 @@
 -- What reading makes of the tokens from a place on: what their plan makes of them, whatever comes behind.
-use Rattle.std.specs.Prelude.{◌≡◌, ℕ, zero, ◌+◌, ◌<◌, ◌≤◌, Bool, true, false, List, ◌∷◌, length, drop, map, Result}
+use Rattle.std.specs.Prelude.{◌≡◌, ◌≢◌, ℕ, zero, ◌+◌, ◌<◌, ◌≤◌, Bool, true, false, List, ◌∷◌, length, drop, map, Result}
 use Rattle.std.specs.Result.{MatchResult}
 use Rattle.smc_tokens.specs.declared.token.Token.{Token}
 use Rattle.smc_tokens.specs.declared.token.Token.TheVariants.{Name, Number}
@@ -55,6 +55,15 @@ given tree next = next tree
 abbrev pub Reads : {X T : Type 0} → ((T → Plan) → Plan) → (X → T) → List Placed → ℕ → Result (X × ℕ) Fault → Type 0
 Reads part tree_of placed from result = MatchResult result (λ found. Leads part (given (tree_of found.0)) placed from found.1) (λ fault. Stops part placed from fault)
 
+-- the plan stops by this fault, which is one of the tokens: no memory was wanted
+pub record Misses {K : Type 0} (part : K → Plan) (placed : List Placed) (from : ℕ) (fault : Fault) : Type 0 where
+  pub stops : Stops part placed from fault
+  pub of_tokens : fault ≢ NoMemory
+
+-- the same as `Reads`, of a part that is read without memory
+abbrev pub ReadsInPlace : {X T : Type 0} → ((T → Plan) → Plan) → (X → T) → List Placed → ℕ → Result (X × ℕ) Fault → Type 0
+ReadsInPlace part tree_of placed from result = MatchResult result (λ found. Leads part (given (tree_of found.0)) placed from found.1) (λ fault. Misses part placed from fault)
+
 -- a mark is passed; or its plan stops by the fault
 abbrev pub Passes : (Plan → Plan) → List Placed → ℕ → Result ℕ Fault → Type 0
-Passes part placed from result = MatchResult result (λ to. Leads part (λ next. next) placed from to) (λ fault. Stops part placed from fault)
+Passes part placed from result = MatchResult result (λ to. Leads part (λ next. next) placed from to) (λ fault. Misses part placed from fault)

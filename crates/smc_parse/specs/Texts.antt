@@ -10,7 +10,7 @@ use Rattle.smc_parse.specs.declared.limits.TheConstants.{MAX_OPEN}
 use Rattle.smc_parse.specs.declared.fault.Fault.{Fault}
 use Rattle.smc_parse.specs.declared.query.Head.{Head}
 use Rattle.smc_parse.specs.declared.query.Tail.{Tail}
-use Rattle.smc_parse.specs.Reading.{tokens_of, ahead, StopsBy, Stops}
+use Rattle.smc_parse.specs.Reading.{tokens_of, ahead, StopsBy, Misses}
 use Rattle.smc_parse.specs.Parts.{item_list}
 
 -- a query up to `show`
@@ -39,7 +39,7 @@ tail_plan depth next = item_list depth (λ is. sort (λ ks. first (λ k. next (r
 
 -- nothing more stands behind a text; or the first token that does is wrong
 abbrev pub Ends : {T : Type 0} → List Placed → ℕ → Result T Fault → Type 0
-Ends placed at result = MatchResult result (λ _. (answer : Answer) → outcome (done answer) (ahead placed at) ≡ built answer) (λ fault. Stops done placed at fault)
+Ends placed at result = MatchResult result (λ _. (answer : Answer) → outcome (done answer) (ahead placed at) ≡ built answer) (λ fault. Misses done placed at fault)
 
 -- all tokens are read: the plan of the form builds this answer of them, or it stops by the fault
 abbrev pub ReadsAll : {X : Type 0} → Form → (X → Answer) → List Placed → Result X Fault → Type 0

@@ -4,7 +4,7 @@ ghost use Rattle.smc_tokens.specs.declared.reserved.Reserved.TheVariants as word
 ghost use Rattle.smc_query.specs.Trees.{aggregate, call_tree, expr_tree};
 ghost use Rattle.smc_query.specs.Grammar.{aggregate_word};
 ghost use Rattle.smc_query.specs.Machine.{argument, call, sees};
-ghost use Rattle.smc_parse.specs.Reading.{ahead, Reads, Stands};
+ghost use Rattle.smc_parse.specs.Reading.{ahead, Reads, ReadsInPlace, Stands};
 ghost use Rattle.smc_parse.specs.Calls.{aggregates_none, aggregates_none_first, meaning};
 
 use crate::Fault;
@@ -82,7 +82,7 @@ fn read_argument(
 fn read_count(tokens: &[Placed], at: usize, depth: u32) -> Result<(ItemCall, usize), Fault>
     requires within { at ≤ length tokens.now }
     requires count { sees (OfWord words.Count) (ahead tokens.now at) ≡ true }
-    ensures { Reads (call depth) call_tree tokens.now at result }
+    ensures { ReadsInPlace (call depth) call_tree tokens.now at result }
 {
     let inner = must_sign(tokens, at + 1, Sign::Open)?;
     let behind = must_sign(tokens, inner, Sign::Close)?;

@@ -1,7 +1,7 @@
 ghost use Rattle.std.specs.Prelude.{◌≡◌, ◌+◌, ◌<◌, ◌≤◌, length, [], MatchOption, MatchResult, true};
 ghost use Rattle.smc_tokens.specs.declared.token.Token.TheVariants.{Name as OfName, Number as OfNumber, Sign as OfSign, Word as OfWord};
 ghost use Rattle.smc_query.specs.Machine.{sees, must, name, whole};
-ghost use Rattle.smc_parse.specs.Reading.{ahead, names_none, wholes_none, Stands, Passes, Reads};
+ghost use Rattle.smc_parse.specs.Reading.{ahead, names_none, wholes_none, Stands, Passes, Reads, ReadsInPlace};
 
 use crate::Fault;
 use smc_tokens::{Name, Placed, Reserved, Sign, Token};
@@ -101,7 +101,7 @@ fn whole_at(tokens: &[Placed], at: usize) -> Option<u64>
 /// A number without decimals that must stand at a place, and the place behind it.
 pub fn must_whole(tokens: &[Placed], at: usize) -> Result<(u64, usize), Fault>
     requires { at ≤ length tokens.now }
-    ensures { Reads whole (λ count. count) tokens.now at result }
+    ensures { ReadsInPlace whole (λ count. count) tokens.now at result }
 {
     match whole_at(tokens, at) {
         Some(count) => Ok((count, at + 1)),

@@ -1,7 +1,7 @@
 ghost use Rattle.std.specs.Prelude.{◌≤◌, length, map};
 ghost use Rattle.smc_query.specs.Trees.{filter_tree, key_tree, path_tree};
 ghost use Rattle.smc_query.specs.Machine.{by, filter, first, sort};
-ghost use Rattle.smc_parse.specs.Reading.{Reads};
+ghost use Rattle.smc_parse.specs.Reading.{Reads, ReadsInPlace};
 
 use crate::Fault;
 use crate::cond::read_cond;
@@ -56,7 +56,7 @@ pub fn read_sort(tokens: &[Placed], at: usize, alloc: Global) -> Result<(SortKey
 /// `first` and a number without decimals, or nothing.
 pub fn read_first(tokens: &[Placed], at: usize) -> Result<(Option<u64>, usize), Fault>
     requires { at ≤ length tokens.now }
-    ensures { Reads first (λ count. count) tokens.now at result }
+    ensures { ReadsInPlace first (λ count. count) tokens.now at result }
 {
     if is_word(tokens, at, Reserved::First) {
         let (count, end) = must_whole(tokens, at + 1)?;

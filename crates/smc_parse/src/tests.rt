@@ -1,7 +1,8 @@
 use crate::{Fault, read_cond, read_edit, read_query};
 use smc_query::{Cond, Expr};
 use smc_tokens::{Name, Placed, Quoted, Reserved, Sign, Token};
-use std::alloc::Global;
+use smc_words::NoMemory;
+use std::alloc::{AllocFailed, Global};
 use std::test::Fail;
 
 const WORDS: [Reserved; 18] = [
@@ -261,5 +262,25 @@ fn and_binds_closer_than_or(rt: HostRuntime) -> Result<(), Fail> {
         _ => false,
     };
     assert!(rt; binds);
+    Ok(())
+}
+
+#[test]
+fn a_fault_says_what_is_wrong(rt: HostRuntime) -> Result<(), Fail> {
+    let faults = [
+        (Fault::Wrong { index: 3 }, "wrong token 3"),
+        (Fault::TooDeep { index: 64 }, "token 64 nests too deeply"),
+        (Fault::NoMemory, "no memory"),
+    ];
+    for (fault, wanted) in faults {
+        assert_eq!(rt; format!(in rt.alloc(); "{fault}")?.as_str(), wanted);
+    }
+    Ok(())
+}
+
+#[test]
+fn want_of_memory_is_no_wrong_token(rt: HostRuntime) -> Result<(), Fail> {
+    assert_eq!(rt; Fault::from(NoMemory), Fault::NoMemory);
+    assert_eq!(rt; Fault::from(AllocFailed { value: 7u32 }), Fault::NoMemory);
     Ok(())
 }

@@ -1,7 +1,8 @@
-mod AsciiLaws
+pub mod AsciiLaws
 mod DateLaws
 mod DigitLaws
-mod Finding
+mod FallLaws
+pub mod Finding
 mod FractionLaws
 mod KindLaws
 mod ListLaws

@@ -17,6 +17,10 @@ pub record AreTokensOf (text : List ℕ) (list : TokenList) : Type 0 where
   pub within : list.end ≤ length text
   pub whole : IsTrue list.whole ↔ (drop list.end text ≡ [])
 
+-- each text falls into some tokens
+abbrev pub FallsIntoSome : Type 0
+FallsIntoSome = (text : List ℕ) → (list : TokenList) × AreTokensOf text list
+
 -- what stands behind the spaces that the text begins with
 abbrev pub behind_spaces : List ℕ → List ℕ
 behind_spaces text = drop (prefix_len (λ byte. byte == space) text) text

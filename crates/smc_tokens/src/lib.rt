@@ -3,7 +3,7 @@
 //! `token` has a token and where it begins; `name` and `quoted` have the texts in it, `reserved` and `sign` the words and
 //! signs, each with how it is written, and `limits` how long a token may be. `list` reads a whole text; below it `read`
 //! finds the token that a text begins with, by its first byte, with `date` and `number` for what begins with a digit,
-//! and `bytes` and `digits` for their parts. `laws` says that a text falls into one list of tokens only. Below stands
+//! and `bytes` and `digits` for their parts. `laws` says that a text falls into one list of tokens, and only one. Below stands
 //! `smc_words`, for want of memory; above it the grammar of queries.
 //!
 //! Callers may rely on it that `read_tokens` gives the longest tokens of a text in their order, each with its place,

@@ -26,7 +26,7 @@ inner-read placed at d inner end a h g = then-leads closed (argument d) (expr d)
 pub returns-in_err-inner : goal.returns-in_err-inner
 returns-in_err-inner c =
     let p = err_from_is_err_and c.from_residual.result c.from_residual.ensures.1 in
-    rw (p.1, p.2) (λ k. c.in_err-inner.ensures (expr c.args.depth (λ a. must (Sign signs.Close) (k a))))
+    rw (p.1, p.2) (λ k. c.in_err-inner.ensures.stops (expr c.args.depth (λ a. must (Sign signs.Close) (k a))))
 
 pub returns-in_err-of : goal.returns-in_err-of
 returns-in_err-of c =
@@ -41,7 +41,7 @@ returns-in_err-behind c =
     let a : ExprTree = expr_tree c.in_ok-of.of in
     rw (p.1, p.2)
     (then-stops (given a) (argument c.args.depth) (must (Sign signs.Close)) c.args.tokens.now c.args.at c.in_ok-of.end c.in_err-behind.field-0.0
-    (inner-read c.args.tokens.now c.args.at c.args.depth c.in_ok-inner.inner c.in_ok-of.end a c.in_ok-inner.ensures c.in_ok-of.ensures) c.in_err-behind.ensures)
+    (inner-read c.args.tokens.now c.args.at c.args.depth c.in_ok-inner.inner c.in_ok-of.end a c.in_ok-inner.ensures c.in_ok-of.ensures) c.in_err-behind.ensures.stops)
 
 pub returns : goal.returns
 returns c =

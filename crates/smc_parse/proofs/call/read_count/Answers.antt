@@ -5,7 +5,7 @@ use Rattle.smc_tokens.specs.declared.sign.Sign.TheVariants as signs
 use Rattle.smc_query.specs.Trees.{CallTree, count}
 use Rattle.smc_query.specs.Machine.{Plan, must, call}
 use Rattle.smc_parse.specs.Reading.{given}
-use Rattle.smc_parse.proofs.LeadLaws.{then-leads, then-stops}
+use Rattle.smc_parse.proofs.LeadLaws.{then-leads, then-misses}
 use Rattle.smc_parse.proofs.CallLaws.{count-leads}
 use Rattle.smc_parse.proofs.call.read_count.Goals as goal
 
@@ -17,7 +17,7 @@ returns-in_err-inner c =
     let p = err_from_is_err_and c.from_residual.result c.from_residual.ensures.1 in
     let made : (CallTree → Plan) → Plan = λ k. must (Sign signs.Close) (k count) in
     rw (p.1, p.2)
-    (then-stops made (call c.args.depth) (must (Sign signs.Open)) c.args.tokens.now c.args.at (c.args.at + 1) c.in_err-inner.field-0.0
+    (then-misses made (call c.args.depth) (must (Sign signs.Open)) c.args.tokens.now c.args.at (c.args.at + 1) c.in_err-inner.field-0.0
     (count-leads c.args.tokens.now c.args.at c.args.depth c.requires.count) c.in_err-inner.ensures)
 
 pub returns-in_err-behind : goal.returns-in_err-behind
@@ -25,7 +25,7 @@ returns-in_err-behind c =
     let p = err_from_is_err_and c.from_residual-in_err-behind.result c.from_residual-in_err-behind.ensures.1 in
     let made : (CallTree → Plan) → Plan = λ k. must (Sign signs.Close) (k count) in
     rw (p.1, p.2)
-    (then-stops (given count) (call c.args.depth) (must (Sign signs.Close)) c.args.tokens.now c.args.at c.in_ok-inner.inner c.in_err-behind.field-0.0
+    (then-misses (given count) (call c.args.depth) (must (Sign signs.Close)) c.args.tokens.now c.args.at c.in_ok-inner.inner c.in_err-behind.field-0.0
     (then-leads made (call c.args.depth) (must (Sign signs.Open)) (λ p. p) c.args.tokens.now c.args.at (c.args.at + 1) c.in_ok-inner.inner
     (count-leads c.args.tokens.now c.args.at c.args.depth c.requires.count) c.in_ok-inner.ensures) c.in_err-behind.ensures)
 

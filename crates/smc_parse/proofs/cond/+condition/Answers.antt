@@ -63,7 +63,7 @@ read_brackets-returns-in_err-behind t c =
     rw (p.1, p.2)
     (then-stops (given a) (neg d) (must (Sign signs.CloseBracket)) c.args.tokens.now c.args.at c.in_ok-of.end c.in_err-behind.field-0.0
     (then-leads closed (neg d) (cond (d - 1)) (given a) c.args.tokens.now c.args.at (c.args.at + 1) c.in_ok-of.end
-    (opens-leads c.args.tokens.now c.args.at (neg-bracket d) (omega arith) c.requires.open) c.in_ok-of.ensures) c.in_err-behind.ensures)
+    (opens-leads c.args.tokens.now c.args.at (neg-bracket d) (omega arith) c.requires.open) c.in_ok-of.ensures) c.in_err-behind.ensures.stops)
 
 pub read_brackets-returns : goal.read_brackets-returns
 read_brackets-returns t c =

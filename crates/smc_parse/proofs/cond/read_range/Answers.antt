@@ -41,7 +41,7 @@ returns-in_err-behind c =
     let made : (CondTree → Plan) → Plan = λ k. expr d (λ e. k (within a b e)) in
     rw (p.1, p.2)
     (then-stops made (compared d a) (must (Word words.And)) c.args.tokens.now c.args.at c.in_ok-low.middle c.in_err-behind.field-0.0
-    (low-read c.args.tokens.now c.args.at d c.in_ok-low.middle a b c.requires.between c.in_ok-low.ensures) c.in_err-behind.ensures)
+    (low-read c.args.tokens.now c.args.at d c.in_ok-low.middle a b c.requires.between c.in_ok-low.ensures) c.in_err-behind.ensures.stops)
 
 pub returns-in_err-high : goal.returns-in_err-high
 returns-in_err-high c =

@@ -63,7 +63,7 @@ read_parentheses-returns-in_err-behind t c =
     rw (p.1, p.2)
     (then-stops (given a) (factor d) (must (Sign signs.Close)) c.args.tokens.now c.args.at c.in_ok-of.end c.in_err-behind.field-0.0
     (then-leads closed (factor d) (expr (d - 1)) (given a) c.args.tokens.now c.args.at (c.args.at + 1) c.in_ok-of.end
-    (opens-leads c.args.tokens.now c.args.at (factor-open d) (omega arith) c.requires.open) c.in_ok-of.ensures) c.in_err-behind.ensures)
+    (opens-leads c.args.tokens.now c.args.at (factor-open d) (omega arith) c.requires.open) c.in_ok-of.ensures) c.in_err-behind.ensures.stops)
 
 pub read_parentheses-returns : goal.read_parentheses-returns
 read_parentheses-returns t c =

@@ -4,7 +4,7 @@ use Rattle.smc_tokens.specs.declared.token.Token.TheVariants.{Word}
 use Rattle.smc_tokens.specs.declared.reserved.Reserved.TheVariants as words
 use Rattle.smc_query.specs.Machine.{Plan, whole, first}
 use Rattle.smc_parse.specs.Reading.{given}
-use Rattle.smc_parse.proofs.LeadLaws.{leads-mark, leads-none, then-leads, then-stops, mark-within, Chooses}
+use Rattle.smc_parse.proofs.LeadLaws.{leads-mark, leads-none, then-leads, then-misses, mark-within, Chooses}
 use Rattle.smc_parse.proofs.PartLaws.{may-choose}
 use Rattle.smc_parse.proofs.parts.read_first.Goals as goal
 
@@ -22,7 +22,7 @@ pub returns-in_err-count : goal.returns-in_err-count
 returns-in_err-count c =
     let p = err_from_is_err_and c.from_residual.result c.from_residual.ensures.1 in
     rw (p.1, p.2)
-    (then-stops counted first whole c.args.tokens.now c.args.at (c.args.at + 1) c.in_err-count.field-0.0 (leads-mark c.args.tokens.now c.args.at first-chooses (sym c.if-is_word.ensures)) c.in_err-count.ensures)
+    (then-misses counted first whole c.args.tokens.now c.args.at (c.args.at + 1) c.in_err-count.field-0.0 (leads-mark c.args.tokens.now c.args.at first-chooses (sym c.if-is_word.ensures)) c.in_err-count.ensures)
 
 pub returns-then-is_word : goal.returns-then-is_word
 unfolding counted

@@ -12,7 +12,7 @@ use Rattle.smc_parse.proofs.query.read_head.Goals as goal
 pub returns-in_err-named : goal.returns-in_err-named
 returns-in_err-named c =
     let p = err_from_is_err_and c.from_residual.result c.from_residual.ensures.1 in
-    rw (p.1, p.2) (λ k. c.in_err-named.ensures (name (by_table c.args.depth k)))
+    rw (p.1, p.2) (λ k. c.in_err-named.ensures.stops (name (by_table c.args.depth k)))
 
 pub returns-in_err-table : goal.returns-in_err-table
 returns-in_err-table c =
@@ -56,7 +56,7 @@ returns-in_err-end c =
     (head-by c.args.tokens.now c.args.at d c.in_ok-filter.grouped c.in_ok-by.shown n f ps
     (head-filter c.args.tokens.now c.args.at d c.in_ok-table.filtered c.in_ok-filter.grouped n f
     (head-table c.args.tokens.now c.args.at d c.in_ok-named.named c.in_ok-table.filtered n (head-from c.args.tokens.now c.args.at d c.in_ok-named.named c.in_ok-named.ensures) c.in_ok-table.ensures)
-    c.in_ok-filter.ensures) c.in_ok-by.ensures) c.in_err-end.ensures)
+    c.in_ok-filter.ensures) c.in_ok-by.ensures) c.in_err-end.ensures.stops)
 
 pub returns : goal.returns
 returns c =

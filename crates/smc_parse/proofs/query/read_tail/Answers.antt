@@ -31,7 +31,7 @@ returns-in_err-first c =
     rw (p.1, p.2)
     (then-stops (λ k. by_count k is ks) (tail_plan d) first c.args.tokens.now c.args.at c.in_ok-sort.counted c.in_err-first.field-0.0
     (tail-sort c.args.tokens.now c.args.at d c.in_ok-items.sorted c.in_ok-sort.counted is ks (tail-items c.args.tokens.now c.args.at d c.in_ok-items.sorted is c.in_ok-items.ensures) c.in_ok-sort.ensures)
-    c.in_err-first.ensures)
+    c.in_err-first.ensures.stops)
 
 pub returns : goal.returns
 returns c =

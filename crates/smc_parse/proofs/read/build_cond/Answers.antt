@@ -16,7 +16,7 @@ returns-in_err-must_end c =
     let a : CondTree = cond_tree c.in_ok-cond.cond in
     rw (p.1, p.2)
     (stops-behind (cond_whole 64) c.args.tokens.now c.in_ok-cond.end (a_cond a) c.in_err-must_end.field-0.0 (leads-with by_cond (cond 64) (given a) c.args.tokens.now 0 c.in_ok-cond.end c.in_ok-cond.ensures)
-    c.in_err-must_end.ensures)
+    c.in_err-must_end.ensures.stops)
 
 pub returns : goal.returns
 returns c =

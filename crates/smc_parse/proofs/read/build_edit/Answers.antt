@@ -26,7 +26,7 @@ returns-in_err-must_end c =
     let f : Option CondTree = filter_tree c.in_ok-filter.filter in
     rw (p.1, p.2)
     (stops-behind (edit_whole 64) c.args.tokens.now c.in_ok-filter.end (an_edit a f) c.in_err-must_end.field-0.0
-    (edit-filter c.args.tokens.now 64 c.in_ok-value.middle c.in_ok-filter.end a f c.in_ok-value.ensures c.in_ok-filter.ensures) c.in_err-must_end.ensures)
+    (edit-filter c.args.tokens.now 64 c.in_ok-value.middle c.in_ok-filter.end a f c.in_ok-value.ensures c.in_ok-filter.ensures) c.in_err-must_end.ensures.stops)
 
 pub returns : goal.returns
 returns c =

@@ -31,7 +31,7 @@ returns-in_err-must_end c =
     let t : TailTree = tail_tree c.in_ok-tail.tail in
     rw (p.1, p.2)
     (stops-behind (query_whole 63) c.args.tokens.now c.in_ok-tail.end (joined h t) c.in_err-must_end.field-0.0
-    (query-tail c.args.tokens.now 63 c.in_ok-head.middle c.in_ok-tail.end h t c.in_ok-head.ensures c.in_ok-tail.ensures) c.in_err-must_end.ensures)
+    (query-tail c.args.tokens.now 63 c.in_ok-head.middle c.in_ok-tail.end h t c.in_ok-head.ensures c.in_ok-tail.ensures) c.in_err-must_end.ensures.stops)
 
 pub returns : goal.returns
 unfolding joined
