@@ -97,7 +97,7 @@ fn claim_first(section: &mut Section<'_>, words: &[u64]) -> bool
         return false;
     }
     if !section
-        .act(Chosen::Go, Op::Load { place: entry })
+        .take(Chosen::Go, Op::Load { place: entry })
         .same(blank)
     {
         return false;

@@ -54,6 +54,7 @@ pub const LIVE_KIND: u8 = 18;
 /// The kind that marks an object as gone.
 pub const MARK_KIND: u8 = 21;
 
+#[inline(always)]
 fn is_store(kind: u8) -> bool
     ensures { result ≡ is_store kind }
 {
@@ -73,6 +74,7 @@ fn is_store(kind: u8) -> bool
         || kind == 36
 }
 
+#[inline(always)]
 fn is_exchange(kind: u8) -> bool
     ensures { result ≡ is_exchange kind }
 {
@@ -89,6 +91,7 @@ fn is_exchange(kind: u8) -> bool
 }
 
 /// What a step of this kind does.
+#[inline(always)]
 pub(crate) fn does(kind: u8) -> Deed
     ensures { result ≡ deed_of kind }
 {
@@ -104,6 +107,7 @@ pub(crate) fn does(kind: u8) -> Deed
 }
 
 /// The operation on the table as numbers.
+#[inline(always)]
 fn step_by_as<C: Choosing>(
     region: &Region,
     seat: &mut Seat<(), View>,
@@ -137,6 +141,7 @@ fn step_by_as<C: Choosing>(
 }
 
 /// One atomic step by numbers: what the pass of the seat offers for its choice. Answers the number that it was shown.
+#[inline(always)]
 fn step_by(region: &Region, seat: &mut Seat<(), View>, chosen: Chosen<'_>, act: Act) -> u64
     requires own { IsOwn (seat_choice seat.old.me.0 chosen) }
     requires here { seat.old.table_id ≡ region.now.table.shared.table_id }
@@ -176,6 +181,7 @@ fn coll_at(shape: &Shape, word: usize) -> Option<u8>
 }
 
 /// The cursors after a step by numbers.
+#[inline(always)]
 fn move_cursor_by(shape: &Shape, cursors: &mut Box<Vec<u32>>, act: Act)
     requires long { length cursors.old.value.items ≡ length shape.now.colls }
     ensures moved { (op : Op) → OpFits shape.now op → act ≡ act_by shape.now act.kind op → IsOfKind act.kind op
@@ -197,6 +203,7 @@ fn move_cursor_by(shape: &Shape, cursors: &mut Box<Vec<u32>>, act: Act)
 impl<'r> Section<'r> {
     /// One atomic step by numbers: the one that the pass offers for this choice. Answers the number that a load, an
     /// exchange or a mark found, and 0 for a store. `take` is the same step, typed, and the faster of the two.
+    #[inline(always)]
     pub fn act(&mut self, chosen: Chosen<'_>, act: Act) -> u64
         requires within { IsWithin (choice_of self.old.local.stand.scans chosen) }
         requires offered { offered_act self.old (choice_of self.old.local.stand.scans chosen) ≡ Some act }
