@@ -1,10 +1,9 @@
 -- What the table asks of a step by numbers, and what the step leaves of the cursors.
-use Rattle.std.proofs.Common.{◌≡◌, ◌≢◌, ℕ, zero, suc, ◌+◌, ◌-◌, ◌<◌, ◌≤◌, ◌==◌, Bool, true, false, Option, Some, None, List, [], ◌∷◌, length, refl, sym, ap, ◌∙◌, subst, arith}
-use Rattle.std.specs.Prelude.{slice_index_or, slice_set}
+use Rattle.std.proofs.Common.{◌≡◌, ◌≢◌, ℕ, zero, suc, ◌+◌, ◌-◌, ◌<◌, ◌≤◌, ◌==◌, true, false, Option, Some, None, List, [], ◌∷◌, length, refl, sym, ap, ◌∙◌, subst, arith}
+use Rattle.std.specs.Prelude.{slice_index_or}
 use prog.Atomic.{either}
 use Rattle.atomic_table.specs.Table.{Me, Allows}
-use Rattle.smc_words.specs.declared.entry.TheConstants.Entry.{GONE}
-use Rattle.smc_shape.specs.Layout.{Collection, Layout, IsShape, entries_of, no_coll, slots_of}
+use Rattle.smc_shape.specs.Layout.{Collection, Layout, IsShape, entries_of, no_coll}
 use Rattle.smc_shape.specs.Places.{InRange, at}
 use Rattle.smc_shape.specs.declared.place.Place.{Place}
 use Rattle.smc_shape.specs.declared.place.Place.TheVariants as place
@@ -15,14 +14,10 @@ use Rattle.smc_core.specs.declared.local.Opening.{Opening}
 use Rattle.smc_core.specs.declared.op.Offer.{Offer}
 use Rattle.smc_core.specs.declared.op.Op.{Op}
 use Rattle.smc_core.specs.declared.op.Op.TheVariants.{Load, Store, Exchange, MarkGone}
-use Rattle.smc_core.specs.declared.word.State.{State}
 use Rattle.smc_core.specs.declared.word.State.TheVariants as state
-use Rattle.smc_core.specs.declared.word.Word.{Word}
 use Rattle.smc_core.specs.declared.word.Word.TheVariants as word
 use Rattle.smc_core.specs.Machine.{local_offer}
-use Rattle.smc_core.specs.Ripe.{next_round}
-use Rattle.smc_core.specs.Row.{OpFits, packed, place_of, put, unpacked}
-use Rattle.smc_core.specs.Words.{state_of}
+use Rattle.smc_core.specs.Row.{OpFits, place_of, put, unpacked}
 use Rattle.smc_rules.proofs.CarryLaws.{by_pass}
 use Rattle.smc_rules.proofs.ReadBack.{unpacked-packed}
 use Rattle.smc_region.specs.declared.act.Act.{Act}
@@ -32,7 +27,7 @@ use Rattle.smc_region.specs.declared.law.View.{View}
 use Rattle.smc_region.specs.Acts.{IsOfKind, act_by, act_in, deed_by, is_live, op_in}
 use Rattle.smc_region.specs.Rule.{IsOwn}
 use Rattle.smc_region.specs.Sections.{cursors_by}
-use Rattle.smc_region.specs.Reached.{From, Saw, Showed, answered_number}
+use Rattle.smc_region.specs.Reached.{From, Showed, answered_number}
 use Rattle.smc_region.specs.Views.{IsAlone, offer_of, op_of, sole_offer, sole_op, view_op}
 use Rattle.smc_region.proofs.Allowed.{allowed, stores, exchanges}
 use Rattle.smc_region.proofs.Keeps.{Rule, Then, seat_fits}

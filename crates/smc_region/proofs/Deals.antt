@@ -16,7 +16,7 @@ use Rattle.smc_core.specs.Local.{fresh}
 use Rattle.smc_core.specs.Machine.{IsOpening, IsOpened, started}
 use Rattle.smc_region.specs.declared.law.View.{View}
 use Rattle.smc_region.specs.Callers.{IsOutside, IsSeatOf, caller_of, new_caller}
-use Rattle.smc_region.specs.Reached.{From, IsReached}
+use Rattle.smc_region.specs.Reached.{IsReached}
 use Rattle.smc_region.specs.Rule.{Fits, HoldsLocal}
 use Rattle.smc_region.specs.Views.{one, numbered, holding, first_view, behind, front, sole}
 use Rattle.smc_region.proofs.Keeps.{Rule}

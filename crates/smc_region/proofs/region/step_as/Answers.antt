@@ -5,7 +5,6 @@ use Rattle.smc_core.specs.declared.op.Op.{Op}
 use Rattle.smc_core.specs.declared.op.Op.TheVariants.{Load, Store, Exchange, MarkGone}
 use Rattle.smc_core.specs.Row.{OpFits}
 use Rattle.smc_region.specs.Choices.{seat_choice}
-use Rattle.smc_core.specs.declared.word.Word.{Word}
 use Rattle.smc_region.specs.Reached.{Saw, Showed, answered_number}
 use Rattle.smc_region.proofs.Keeps.{saw-showed}
 use Rattle.smc_region.proofs.Allowed.{allowed, stores, exchanges, index_below, suits-parts}
