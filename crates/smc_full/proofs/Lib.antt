@@ -1,7 +1,8 @@
 pub mod AsideWords
-mod WalkLaws
-mod Made
-mod Sections
-mod Adds
-mod Fullness
+pub mod WalkLaws
+pub mod Made
+pub mod Sections
+pub mod Adds
+pub mod Fullness
+pub mod Turns
 mod Tries
