@@ -1,0 +1,3 @@
+pub mod Stillness
+pub mod Scenes
+pub mod Runs

@@ -1,0 +1,4 @@
+use Rattle.smc_packing.proofs.laws.a_drive_packs.Goals as goal
+
+pub returns : goal.returns
+returns c = ?

@@ -1,0 +1,4 @@
+pub mod Counts
+pub mod Census
+pub mod Drive
+pub mod Packing
