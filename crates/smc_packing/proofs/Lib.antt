@@ -1,3 +1,4 @@
 pub mod Stillness
 pub mod Scenes
 pub mod Runs
+pub mod Waiting
