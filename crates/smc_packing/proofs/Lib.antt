@@ -2,3 +2,4 @@ pub mod Stillness
 pub mod Scenes
 pub mod Runs
 pub mod Waiting
+pub mod Finishes

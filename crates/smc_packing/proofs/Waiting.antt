@@ -97,7 +97,7 @@ module _ (m0 : Memory) (w0 : World) (r0 : Option Owned) where
 
   -- how far an advance has come
   abbrev AdvancePart : Memory → Section → Phase → Option Done → Type 0
-  AdvancePart memory Outside phase.Idle None = Unit {0}
+  AdvancePart memory section phase.Idle None = Unit {0}
   AdvancePart memory Outside (phase.Advancing from other) None = epoch_of_region m0 ≤ from
   AdvancePart memory Outside (phase.Ready from) None = epoch_of_region m0 ≤ from
   AdvancePart memory Outside phase.Idle (Some answer) = IsNamedSince (epoch_of_region memory) (names answer)
@@ -115,7 +115,7 @@ module _ (m0 : Memory) (w0 : World) (r0 : Option Owned) where
   advance-stable memory op world section owned next answer quiet p = record { same = same-quiet memory op world owned quiet p.same; part = part section next answer p.part }
     where
       part : (section : Section) (next : Phase) (answer : Option Done) → AdvancePart memory section next answer → AdvancePart (apply op memory) section next answer
-      part Outside phase.Idle None k = tt
+      part section phase.Idle None k = tt
       part Outside (phase.Advancing from other) None k = k
       part Outside (phase.Ready from) None k = k
       part Outside phase.Idle (Some answer) k = named-later (names answer) (epoch_of_region memory) (epoch_of_region (apply op memory)) (quiet-epoch memory op quiet) k
@@ -125,7 +125,9 @@ module _ (m0 : Memory) (w0 : World) (r0 : Option Owned) where
   advance-idle memory world section owned next answer p = go section next p.part
     where
       go : (section : Section) (next : Phase) → AdvancePart memory section next (Some answer) → next ≡ phase.Idle
-      go Outside phase.Idle k = refl
+      go section phase.Idle k = refl
+      go Outside (phase.Advancing from other) k = absurd k
+      go Outside (phase.Ready from) k = absurd k
       go section next k = absurd k
 
   module _ (opening : Opening) (shape : Layout) (pass : ℕ) where
@@ -141,11 +143,11 @@ module _ (m0 : Memory) (w0 : World) (r0 : Option Owned) where
     advance-starts s e aside within Outside owned phase.Idle at_sec at_round at_call p = λ told.
         cond_both (plain_of (s.memory place.Epoch) == LAST_EPOCH) (ends done.Spent) (goes (advance_next shape (plain_of (s.memory place.Epoch)) 0)) (AfterChange Advancing s.memory s.world Outside owned)
             (λ t. record { same = p.same; part = tt }) (λ n. onward s.memory s.world owned (plain_of (s.memory place.Epoch)) 0 p.same p.same.epoch)
-    advance-starts s e aside within section owned phase.Idle at_sec at_round at_call p = absurd p.part
+    advance-starts s e aside within section owned phase.Idle at_sec at_round at_call p = tt
     advance-starts s e aside within section owned next at_sec at_round at_call p = tt
 
     advance-goes : IsKeptBy Advancing opening shape pass Go
-    advance-goes s e aside within Outside owned phase.Idle at_sec at_round at_call p = tt
+    advance-goes s e aside within section owned phase.Idle at_sec at_round at_call p = tt
     advance-goes s e aside within Outside owned (phase.Advancing from other) at_sec at_round at_call p = λ told.
         cond_both (plain_of (s.memory (place.Section other)) == 0 || plain_of (s.memory (place.Section other)) == from) (goes (advance_next shape from (other + 1))) (ends (done.NotYet other (plain_of (s.memory (place.Section other))))) (AfterChange Advancing s.memory s.world Outside owned)
             (λ t. onward s.memory s.world owned from (other + 1) p.same p.part) (λ n. record { same = p.same; part = tt })
@@ -166,7 +168,7 @@ module _ (m0 : Memory) (w0 : World) (r0 : Option Owned) where
 
   -- how far the beginning of a section has come
   abbrev EnterPart : Section → Phase → Option Done → Type 0
-  EnterPart Outside phase.Idle None = Unit {0}
+  EnterPart section phase.Idle None = Unit {0}
   EnterPart (Loaded seen) phase.Entering None = Unit {0}
   EnterPart (Announced seen) phase.Entering None = Unit {0}
   EnterPart (Again seen own) phase.Entering None = epoch_of_region m0 ≤ own
@@ -192,7 +194,7 @@ module _ (m0 : Memory) (w0 : World) (r0 : Option Owned) where
 
   -- whether a pass that leaves is still in its section
   abbrev LeavePart : Section → Phase → Option Done → Type 0
-  LeavePart (Inside own calm) phase.Idle None = Unit {0}
+  LeavePart section phase.Idle None = Unit {0}
   LeavePart Outside phase.Idle (Some answer) = Unit {0}
   LeavePart _ _ _ = ⊥
 
@@ -204,14 +206,13 @@ module _ (m0 : Memory) (w0 : World) (r0 : Option Owned) where
   leave-idle memory world section owned next answer p = go section next p.part
     where
       go : (section : Section) (next : Phase) → LeavePart section next (Some answer) → next ≡ phase.Idle
-      go Outside phase.Idle k = refl
-      go (Inside own calm) phase.Idle k = absurd k
+      go section phase.Idle k = refl
       go section next k = absurd k
 
   module _ (opening : Opening) (shape : Layout) (pass : ℕ) where
     enter-starts : IsKeptBy Entering opening shape pass (Start call.Enter)
     enter-starts s e aside within Outside owned phase.Idle at_sec at_round at_call p = λ told. record { same = p.same; part = tt }
-    enter-starts s e aside within section owned phase.Idle at_sec at_round at_call p = absurd p.part
+    enter-starts s e aside within section owned phase.Idle at_sec at_round at_call p = tt
     enter-starts s e aside within section owned next at_sec at_round at_call p = tt
 
     enter-goes : IsKeptBy Entering opening shape pass Go
@@ -232,7 +233,7 @@ module _ (m0 : Memory) (w0 : World) (r0 : Option Owned) where
 
     leave-starts : IsKeptBy Leaving opening shape pass (Start call.Leave)
     leave-starts s e aside within (Inside own calm) owned phase.Idle at_sec at_round at_call p = λ told. record { same = same-section s.memory pass (word.Plain 0) s.world owned p.same; part = tt }
-    leave-starts s e aside within section owned phase.Idle at_sec at_round at_call p = absurd p.part
+    leave-starts s e aside within section owned phase.Idle at_sec at_round at_call p = tt
     leave-starts s e aside within section owned next at_sec at_round at_call p = tt
 
     leave-goes : IsKeptBy Leaving opening shape pass Go
