@@ -2,7 +2,7 @@
 reads, and which facts of its own part each goal is told by default; and for single goals what more they are told."""
 from kinds import K, BY
 
-F = {"calls": "(calls h)", "copies": "(copies h)", "claims": "(claims h)", "objects": "(objects h)", "moves": "(moves h)", "records": "r", "scans": "r"}
+F = {"calls": "(calls h)", "copies": "(copies h)", "claims": "(claims h)", "objects": "(objects h)", "moves": "(moves h)", "records": "r", "scans": "r", "uses": "r"}
 C = []
 
 
@@ -81,7 +81,7 @@ fact("records", "j_passed", "i c' a' e' s' k' n' li is lt", "i c' a' e' s' k' n'
 fact("records", "j_word", "i c' a' e' s' f' v' n' li is lk ld", "i c' a' e' s' f' v' n' li", "entry field")
 fact("records", "j_fields", "i c' a' e' s' k' n' li is lt", "i c' a' e' s' k' n' li", "entry field fwd")
 BC = {c["name"]: c for c in C}
-# scans: their facts are added at the end, by facts_scans.py
+# scans and uses: their facts are added at the end, by facts_scans.py and facts_uses.py
 PARTS = ["calls", "copies", "claims", "objects", "moves"]
 
 
@@ -180,5 +180,6 @@ for pref, c in (("l", "c"), ("f", "g.coll")):
 own_fields("write starts_remove", "held_record p c a e q k' in_n pre1")
 
 exec(open(__file__.replace("facts.py", "special.py")).read())
-# scans
+# scans, and users of slots
 exec(open(__file__.replace("facts.py", "facts_scans.py")).read())
+exec(open(__file__.replace("facts.py", "facts_uses.py")).read())

@@ -12,8 +12,9 @@ from kinds import K, GROUPS, BY, WORLD
 import facts as T
 
 TOP = os.path.dirname(os.path.dirname(os.path.abspath(__file__)))
-RECORDS = {"calls": "CallsAgree", "copies": "CopiesAgree", "claims": "ClaimsAgree", "objects": "ObjectsAgree", "moves": "MovesAgree", "records": "RecordsAgree opened", "scans": "ScansAgree"}
-MORE = {"records": "RecordsAgree opened sh st", "scans": "ScansAgree sh st"}
+RECORDS = {"calls": "CallsAgree", "copies": "CopiesAgree", "claims": "ClaimsAgree", "objects": "ObjectsAgree", "moves": "MovesAgree", "records": "RecordsAgree opened", "scans": "ScansAgree", "uses": "UsesAgree"}
+MORE = {"records": "RecordsAgree opened sh st", "scans": "ScansAgree sh st", "uses": "UsesAgree sh st"}
+BY_HAND = {"scans": "smc_inv_scan.specs.Scans", "uses": "smc_inv_use.specs.Uses"}     # parts of crates that have files written by hand too
 HEAD = open(os.path.join(TOP, "tools", "head.txt")).read()
 
 
@@ -118,13 +119,13 @@ def main():
             text += f"\npub records-each : (opened : ℕ) → EachKind (RecordsAgree opened) (RecordsAgree opened)\nrecords-each opened = record {{\n" + "".join(f"  {k['name']} = {k['name']} opened;\n" for k in K) + "}\n"
             open(os.path.join(folder, name + ".antt"), "w").write(text)
             continue
-        if part == "scans":
-            text = text.replace("smc_agreement.specs.Agreement", "smc_inv_scan.specs.Scans")
+        if part in BY_HAND:
+            text = text.replace("smc_agreement.specs.Agreement", BY_HAND[part])
         premise = RECORDS[part] if part in MORE else "Nothing"
         text += f"\npub {part}-each : EachKind {premise} {RECORDS[part]}\n{part}-each = record {{\n" + "".join(f"  {k['name']} = {k['name']};\n" for k in K) + "}\n"
         open(os.path.join(folder, name + ".antt"), "w").write(text)
-    # the laws of scans have files written by hand beside these
-    by_hand = sorted(f[:-5] for f in os.listdir(folder) if f.endswith(".antt") and f != "Lib.antt" and f[:-5] not in lines) if parts == ["scans"] else []
+    # some parts have files written by hand beside these
+    by_hand = sorted(f[:-5] for f in os.listdir(folder) if f.endswith(".antt") and f != "Lib.antt" and f[:-5] not in lines) if parts[0] in BY_HAND else []
     print("\n".join("pub mod " + n for n in by_hand + lines))
 
 

@@ -1,0 +1,14 @@
+pub mod RestLaws
+pub mod UseLaws
+pub mod Used
+pub mod UsesSections
+pub mod UsesAdds
+pub mod UsesLooks
+pub mod UsesHelps
+pub mod UsesHolds
+pub mod UsesScans
+pub mod UsesBegins
+pub mod UsesTargets
+pub mod UsesFinishes
+pub mod UsesCancels
+pub mod EachUses

@@ -1,0 +1,3 @@
+pub mod Uses
+pub mod Rest
+pub mod Laws
