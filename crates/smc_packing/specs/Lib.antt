@@ -1,4 +1,2 @@
-pub mod Counts
-pub mod Census
 pub mod Drive
 pub mod Packing

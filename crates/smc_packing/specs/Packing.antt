@@ -13,7 +13,7 @@ use Rattle.smc_rules.specs.SlotRule.{SlotRule}
 use Rattle.smc_rules.specs.State.{State, Backs}
 use Rattle.smc_refine.specs.Orders.{logs_of}
 use Rattle.smc_aside.specs.Aside.{OthersAside}
-use Rattle.smc_packing.specs.Census.{occupied}
+use Rattle.smc_census.specs.Census.{occupied}
 use Rattle.smc_packing.specs.Drive.{IsFree, Drives, Surveys}
 
 -- a state behind the machine, with the plain world of its logs, of which this holds
