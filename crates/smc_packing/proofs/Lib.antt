@@ -3,3 +3,5 @@ pub mod Scenes
 pub mod Runs
 pub mod Waiting
 pub mod Finishes
+pub mod Rooms
+pub mod Walks
