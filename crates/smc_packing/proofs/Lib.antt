@@ -5,3 +5,4 @@ pub mod Waiting
 pub mod Finishes
 pub mod Rooms
 pub mod Walks
+pub mod Sources
