@@ -6,3 +6,4 @@ pub mod Finishes
 pub mod Rooms
 pub mod Walks
 pub mod Sources
+pub mod Targets

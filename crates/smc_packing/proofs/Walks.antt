@@ -84,7 +84,7 @@ module _ (shape : Layout) (coll epoch many : ℕ) (w0 : World) where
   HasRoomFor memory moves source target = HasRoom epoch memory moves.coll moves.kept (slots_of shape moves.coll) source target
 
   -- so it is where its target is being made ready for the object
-  abbrev IsFilling : Memory → Walk → Number → Type 0
+  abbrev pub IsFilling : Memory → Walk → Number → Type 0
   IsFilling memory moves number = IsWalking memory moves × IsInHand memory moves number × HasRoomFor memory moves (moves.source + 1) (moves.target + 1)
 
   -- what the answer of a begin says: there was nothing to do, or each object above the kept slots is frozen
