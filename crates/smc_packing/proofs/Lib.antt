@@ -7,3 +7,4 @@ pub mod Rooms
 pub mod Walks
 pub mod Sources
 pub mod Targets
+pub mod Begins
