@@ -8,3 +8,5 @@ pub mod Walks
 pub mod Sources
 pub mod Targets
 pub mod Begins
+pub mod CountSteps
+pub mod Surveys
