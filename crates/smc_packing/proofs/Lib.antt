@@ -1,12 +1,13 @@
+pub mod Known
 pub mod Stillness
 pub mod Scenes
 pub mod Runs
 pub mod Waiting
-pub mod Finishes
 pub mod Rooms
+pub mod CountSteps
 pub mod Walks
 pub mod Sources
 pub mod Targets
 pub mod Begins
-pub mod CountSteps
+pub mod Finishes
 pub mod Surveys

@@ -130,7 +130,7 @@ module _ (P : Saying) (opening : Opening) (shape : Layout) (valid : IsShape shap
           → P (apply o.op s.memory) (world_told s.world (stand_change shape pass (s.stands pass) choice told (seen o.op s.memory)).event)
               (section_after (s.stands pass).section (s.stands pass).phase choice (seen o.op s.memory)) (round_after (s.stands pass).round (s.stands pass).section (s.stands pass).phase choice (seen o.op s.memory))
               (stand_change shape pass (s.stands pass) choice told (seen o.op s.memory)).phase (stand_change shape pass (s.stands pass) choice told (seen o.op s.memory)).answer)) f.offers
-          (keeps s said.scene.rule (aside-in opening shape m said.scene pass aside) f.within (s.stands pass).section (s.stands pass).round (s.stands pass).phase refl refl refl said.says) f.told in
+          (keeps s said.scene.rule.all (aside-in opening shape m said.scene pass aside) f.within (s.stands pass).section (s.stands pass).round (s.stands pass).phase refl refl refl said.says) f.told in
       let place : stand ≡ put_stand s.stands pass stand pass = sym (put_stand-same s.stands pass pass stand refl) in
       let all : Says P pass (state_after shape s pass choice f.told f.offered.op w) (stand_change shape pass (s.stands pass) choice f.told w).answer =
       subst (λ (k : Stand). P (apply f.offered.op s.memory) (world_told s.world (stand_change shape pass (s.stands pass) choice f.told w).event) k.section k.round k.phase (stand_change shape pass (s.stands pass) choice f.told w).answer) place holds in

@@ -21,14 +21,14 @@ use Rattle.smc_rules.specs.State as S
 use Rattle.smc_rules.specs.State.{Backs, stand_offer, stand_change, state_after}
 use Rattle.smc_rules.proofs.CarryLaws.{backs_step, get-set_same, get-set_other}
 use Rattle.smc_rules.proofs.MirrorLaws.{mirrored}
-use Rattle.smc_laws.proofs.Everything.{Everything, everything-kept}
 use Rattle.smc_aside.specs.Aside.{StandsAside, OthersAside}
+use Rattle.smc_packing.proofs.Known.{Known, known-kept}
 
 -- a state behind a machine, with all that every reached state keeps
 pub record Scene (opening : Opening) (shape : Layout) (m : Machine) : Type 0 where
   pub state : S.State
   pub backs : Backs shape anywhere m.row m.locals state
-  pub rule : Everything opening shape state
+  pub rule : Known opening shape state
 
 -- the answers that a pass has kept
 abbrev pub answers_of : ℕ → List Local → List Answer
@@ -77,7 +77,7 @@ module _ (opening : Opening) (shape : Layout) (valid : IsShape shape) (m : Machi
   may = ap (λ (k : Stand). stand_offer shape by k choice) at ∙ step.offers
 
   mir : IsMirrored shape anywhere m.row scene.state.memory step.offered.op
-  mir = mirrored shape anywhere m.row scene.state.memory step.offered.op valid scene.backs.mirrors ((everything-kept opening shape valid).fits scene.state by choice step.offered inside scene.rule may)
+  mir = mirrored shape anywhere m.row scene.state.memory step.offered.op valid scene.backs.mirrors ((known-kept opening shape valid).fits scene.state by choice step.offered inside scene.rule may)
 
   changed-to : (stepped shape m by step.local choice step.told step.offered.op).locals ≡ slice_set m.locals by l'
   changed-to = refl
@@ -100,7 +100,7 @@ module _ (opening : Opening) (shape : Layout) (valid : IsShape shape) (m : Machi
     then = record {
       state = state_after shape scene.state by choice step.told step.offered.op shows;
       backs = backs_step shape anywhere valid m by choice step.local step.told step.offered.op scene.state scene.backs step.here mir;
-      rule = (everything-kept opening shape valid).kept scene.state by choice step.offered step.told shows inside scene.rule may mir.shows;
+      rule = (known-kept opening shape valid).kept scene.state by choice step.offered step.told shows inside scene.rule may mir.shows;
     };
     is = ap (λ (w : Word). state_after shape scene.state by choice step.told step.offered.op w) (mir.shows refl);
     at = length l'.log;
