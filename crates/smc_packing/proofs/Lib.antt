@@ -11,3 +11,4 @@ pub mod Targets
 pub mod Begins
 pub mod Finishes
 pub mod Surveys
+pub mod Moments

@@ -24,6 +24,7 @@ use Rattle.smc_core.specs.declared.section.TheConstants.{LAST_EPOCH}
 use Rattle.smc_core.specs.declared.word.Word.{Word}
 use Rattle.smc_core.specs.declared.word.Word.TheVariants as word
 use Rattle.smc_core.specs.Change.{change, advance_next}
+use Rattle.smc_core.specs.Section.{epoch_of}
 use Rattle.smc_core.specs.Step.{goes, ends, tells}
 use Rattle.smc_core.specs.Words.{plain_of, same_word}
 use Rattle.smc_rules.specs.Memory.{Memory, apply, put_word}
@@ -96,7 +97,7 @@ module _ (m0 : Memory) (w0 : World) (r0 : Option Owned) where
   IsNamedSince now named = IfSome named (λ e. (epoch_of_region m0 + 1 ≤ e) × (e ≤ now))
 
   -- how far an advance has come
-  abbrev AdvancePart : Memory → Section → Phase → Option Done → Type 0
+  abbrev pub AdvancePart : Memory → Section → Phase → Option Done → Type 0
   AdvancePart memory section phase.Idle None = Unit {0}
   AdvancePart memory Outside (phase.Advancing from other) None = epoch_of_region m0 ≤ from
   AdvancePart memory Outside (phase.Ready from) None = epoch_of_region m0 ≤ from
@@ -166,8 +167,14 @@ module _ (m0 : Memory) (w0 : World) (r0 : Option Owned) where
     pub advance-carries : Carries Advancing opening shape pass call.Advance
     advance-carries = record { stable = advance-stable; idle = advance-idle; starts = advance-starts; goes = advance-goes }
 
+  -- the epoch that the answer of an advance names was reached since
+  pub advanced-named : (memory : Memory) (section : Section) (answer : Done) → AdvancePart memory section phase.Idle (Some answer) → (e : ℕ) → names answer ≡ Some e
+      → (epoch_of_region m0 + 1 ≤ e) × (e ≤ epoch_of_region memory)
+  advanced-named memory Outside answer k e is = subst (λ (n : Option ℕ). IsNamedSince (epoch_of_region memory) n) is k
+  advanced-named memory section answer k e is = absurd k
+
   -- how far the beginning of a section has come
-  abbrev EnterPart : Section → Phase → Option Done → Type 0
+  abbrev pub EnterPart : Section → Phase → Option Done → Type 0
   EnterPart section phase.Idle None = Unit {0}
   EnterPart (Loaded seen) phase.Entering None = Unit {0}
   EnterPart (Announced seen) phase.Entering None = Unit {0}
@@ -192,8 +199,13 @@ module _ (m0 : Memory) (w0 : World) (r0 : Option Owned) where
       go (Lasting own) phase.Entering k = absurd k
       go section next k = absurd k
 
+  -- the epoch of a section that has begun is not below that of before
+  pub entered-above : (section : Section) (answer : Done) → EnterPart section phase.Idle (Some answer) → epoch_of_region m0 ≤ epoch_of section
+  entered-above (Inside own calm) answer k = k
+  entered-above section answer k = absurd k
+
   -- whether a pass that leaves is still in its section
-  abbrev LeavePart : Section → Phase → Option Done → Type 0
+  abbrev pub LeavePart : Section → Phase → Option Done → Type 0
   LeavePart section phase.Idle None = Unit {0}
   LeavePart Outside phase.Idle (Some answer) = Unit {0}
   LeavePart _ _ _ = ⊥
