@@ -12,3 +12,4 @@ pub mod Begins
 pub mod Finishes
 pub mod Surveys
 pub mod Moments
+pub mod Rests
