@@ -13,3 +13,5 @@ pub mod Finishes
 pub mod Surveys
 pub mod Moments
 pub mod Rests
+pub mod Homes
+pub mod Ends
