@@ -15,3 +15,4 @@ pub mod Moments
 pub mod Rests
 pub mod Homes
 pub mod Ends
+pub mod Packs

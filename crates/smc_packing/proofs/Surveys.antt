@@ -35,9 +35,10 @@ use Rattle.smc_census.proofs.Always.{slots-whole}
 use Rattle.smc_census.proofs.WalkLaws.{CountsBelow, counts-none, counts-all}
 use Rattle.smc_packing.proofs.CountSteps.{HomesAreValid, steps-directory, steps-back, steps-entry}
 use Rattle.smc_packing.proofs.Runs.{IsStable, IsKeptBy, Carries}
+use Rattle.smc_packing.proofs.Stillness.{Still, quiet-still}
 use Rattle.smc_packing.proofs.Waiting.{AfterChange}
 
-module _ (opening : Opening) (shape : Layout) (valid : IsShape shape) (coll : ℕ) (w0 : World) (pass : ℕ) where
+module _ (opening : Opening) (shape : Layout) (valid : IsShape shape) (coll : ℕ) (m0 : Memory) (w0 : World) (pass : ℕ) where
   -- a survey has counted the slots before this one
   pub record IsSurveying (memory : Memory) (of slot : ℕ) (count : Count) : Type 0 where
     pub of_it : of ≡ coll
@@ -54,6 +55,7 @@ module _ (opening : Opening) (shape : Layout) (valid : IsShape shape) (coll : �
   SurveyPart memory _ None = ⊥
 
   pub record Surveying (memory : Memory) (world : World) (section : Section) (owned : Option Owned) (next : Phase) (answer : Option Done) : Type 0 where
+    pub still : Still m0 memory
     pub in_world : world ≡ w0
     pub valid_homes : HomesAreValid shape memory coll
     pub part : SurveyPart memory next answer
@@ -69,30 +71,30 @@ module _ (opening : Opening) (shape : Layout) (valid : IsShape shape) (coll : �
   survey-stable : IsStable Surveying
   survey-stable memory (Load here) world section owned next answer quiet p = p
   survey-stable memory (Exchange place.Epoch (word.Plain from) (word.Plain to)) world section owned next answer quiet p =
-      record { in_world = p.in_world; valid_homes = p.valid_homes; part = survey-moved memory from to next answer p.part }
+      record { still = quiet-still m0 memory (Exchange place.Epoch (word.Plain from) (word.Plain to)) quiet p.still; in_world = p.in_world; valid_homes = p.valid_homes; part = survey-moved memory from to next answer p.part }
   survey-stable memory op world section owned next answer quiet p = absurd quiet
 
-  module _ (memory : Memory) (world : World) (section : Section) (owned : Option Owned) (same : world ≡ w0) (homes_valid : HomesAreValid shape memory coll) where
+  module _ (memory : Memory) (world : World) (section : Section) (owned : Option Owned) (still : Still m0 memory) (same : world ≡ w0) (homes_valid : HomesAreValid shape memory coll) where
     -- what holds once the walk has come here
     abbrev After : Counting → Type 0
     After c = AfterChange Surveying memory world section owned (survey_change c)
 
     walks : (slot : ℕ) (count : Count) → slot < slots_of shape coll → CountsBelow (is_home memory coll) slot count → After (Walks (walk.Directory coll slot count))
-    walks slot count lt counts = record { in_world = same; valid_homes = homes_valid; part = record { of_it = refl; within = lt; counted = counts } }
+    walks slot count lt counts = record { still = still; in_world = same; valid_homes = homes_valid; part = record { of_it = refl; within = lt; counted = counts } }
 
     ends : (count : Count) → CountsBelow (is_home memory coll) (slots_of shape coll) count → After (Counted coll count)
     ends count counts =
         let all = counts-all (is_home memory coll) (slots_of shape coll) count (slots-whole shape coll valid) counts in
-        record { in_world = same; valid_homes = homes_valid; part = (refl, ap (λ (n : ℕ). done.Surveyed coll n count.blocks) all.0 ∙ ap (λ (n : ℕ). done.Surveyed coll (homes shape memory coll) n) all.1) }
+        record { still = still; in_world = same; valid_homes = homes_valid; part = (refl, ap (λ (n : ℕ). done.Surveyed coll n count.blocks) all.0 ∙ ap (λ (n : ℕ). done.Surveyed coll (homes shape memory coll) n) all.1) }
 
     survey-directory : (of slot : ℕ) (count : Count) → IsSurveying memory of slot count → After (counting shape (walk.Directory of slot count) (memory (place.Directory of slot)))
     survey-directory of slot count k = subst (λ (c : ℕ). After (counting shape (walk.Directory c slot count) (memory (place.Directory c slot)))) (sym k.of_it)
-        (steps-directory shape memory coll homes_valid After walks ends slot count k.within k.counted (record { in_world = same; valid_homes = homes_valid; part = record { of_it = refl; within = k.within; counted = k.counted } }))
+        (steps-directory shape memory coll homes_valid After walks ends slot count k.within k.counted (record { still = still; in_world = same; valid_homes = homes_valid; part = record { of_it = refl; within = k.within; counted = k.counted } }))
 
     survey-back : (of slot : ℕ) (count : Count) → IsSurveying memory of slot count → After (counting shape (walk.Back of slot count) (memory (place.Back of slot)))
     survey-back of slot count k = subst (λ (c : ℕ). After (counting shape (walk.Back c slot count) (memory (place.Back c slot)))) (sym k.of_it)
         (steps-back shape memory coll homes_valid After walks ends slot count k.within k.counted
-        (λ number is. record { in_world = same; valid_homes = homes_valid; part = (record { of_it = refl; within = k.within; counted = k.counted }, is) }))
+        (λ number is. record { still = still; in_world = same; valid_homes = homes_valid; part = (record { of_it = refl; within = k.within; counted = k.counted }, is) }))
 
     survey-entry : (of slot : ℕ) (count : Count) (number : Number) → IsSurveying memory of slot count → back_in memory coll slot ≡ Some number
         → After (counting shape (walk.Entry of slot count number) (memory (place.Entry number.coll number.entry)))
@@ -104,7 +106,7 @@ module _ (opening : Opening) (shape : Layout) (valid : IsShape shape) (coll : �
     where
       may : (b : Bool) → nat_lt coll (length shape.colls) ≡ b → IfSome (when b (count_offer (walk.Directory coll 0 no_count))) (λ o. (told : ℕ)
           → AfterChange Surveying (apply o.op s.memory) s.world (Inside x calm) owned (survey_change (counting shape (walk.Directory coll 0 no_count) (seen o.op s.memory))))
-      may true t = λ told. survey-directory s.memory s.world (Inside x calm) owned p.in_world p.valid_homes coll 0 no_count
+      may true t = λ told. survey-directory s.memory s.world (Inside x calm) owned p.still p.in_world p.valid_homes coll 0 no_count
           (record { of_it = refl; within = (valid.coll coll (grind (arith, nat_tests, t))).some_slots; counted = counts-none (is_home s.memory coll) })
       may false n = tt
   survey-starts s e aside within section owned phase.Idle at_sec at_round at_call p = tt
@@ -112,9 +114,9 @@ module _ (opening : Opening) (shape : Layout) (valid : IsShape shape) (coll : �
 
   survey-goes : IsKeptBy Surveying opening shape pass Go
   survey-goes s e aside within section owned phase.Idle at_sec at_round at_call p = tt
-  survey-goes s e aside within section owned (phase.Survey (walk.Directory of slot count)) at_sec at_round at_call p = λ told. survey-directory s.memory s.world section owned p.in_world p.valid_homes of slot count p.part
-  survey-goes s e aside within section owned (phase.Survey (walk.Back of slot count)) at_sec at_round at_call p = λ told. survey-back s.memory s.world section owned p.in_world p.valid_homes of slot count p.part
-  survey-goes s e aside within section owned (phase.Survey (walk.Entry of slot count number)) at_sec at_round at_call p = λ told. survey-entry s.memory s.world section owned p.in_world p.valid_homes of slot count number p.part.0 p.part.1
+  survey-goes s e aside within section owned (phase.Survey (walk.Directory of slot count)) at_sec at_round at_call p = λ told. survey-directory s.memory s.world section owned p.still p.in_world p.valid_homes of slot count p.part
+  survey-goes s e aside within section owned (phase.Survey (walk.Back of slot count)) at_sec at_round at_call p = λ told. survey-back s.memory s.world section owned p.still p.in_world p.valid_homes of slot count p.part
+  survey-goes s e aside within section owned (phase.Survey (walk.Entry of slot count number)) at_sec at_round at_call p = λ told. survey-entry s.memory s.world section owned p.still p.in_world p.valid_homes of slot count number p.part.0 p.part.1
   survey-goes s e aside within section owned next at_sec at_round at_call p = absurd p.part
 
   pub survey-carries : Carries Surveying opening shape pass (call.Survey coll)

@@ -34,7 +34,7 @@ use Rattle.smc_core.specs.Ripe.{is_ripe_slot}
 use Rattle.smc_core.specs.Section.{epoch_of}
 use Rattle.smc_core.specs.Step.{goes}
 use Rattle.smc_rules.specs.Memory.{Memory, apply}
-use Rattle.smc_rules.specs.Reads.{state_in, dir_in, back_in}
+use Rattle.smc_rules.specs.Reads.{round_in, state_in, dir_in, back_in}
 use Rattle.smc_census.specs.Census.{is_home, homes, occupied}
 use Rattle.smc_census.specs.Counts.{any_in_block, count_below}
 use Rattle.smc_census.proofs.CountLaws.{count_below-le, count_below-weaker, room_before}
@@ -89,7 +89,7 @@ module _ (shape : Layout) (coll epoch many : ℕ) (w0 : World) where
 
   -- what the answer of a begin says: there was nothing to do, or each object above the kept slots is frozen
   abbrev pub BeginEnd : Memory → Done → Type 0
-  BeginEnd memory (done.Nothing of) = (occupied shape memory coll ≤ blocks_for many) × (homes shape memory coll ≡ many)
+  BeginEnd memory (done.Nothing of) = (occupied shape memory coll ≤ blocks_for many) × (homes shape memory coll ≡ many) × (round_in memory ≡ None)
   BeginEnd memory (done.Round of bound moves) = AreLow coll kept memory × TargetsAreLow coll kept memory
   BeginEnd memory _ = Unit {0}
 
