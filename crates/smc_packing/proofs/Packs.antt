@@ -1,5 +1,6 @@
 -- A drive packs the collection, and a survey tells so.
 use Rattle.std.proofs.Common.{◌≡◌, ◌⊎◌, ℕ, ◌+◌, ◌*◌, ◌%◌, ◌<◌, ◌≤◌, Bool, true, false, Option, Some, None, List, length, refl, sym, ap, ◌∙◌, subst, inl, inr, arith}
+use Rattle.std.proofs.lemmas.Bool.Decides.{nat_tests}
 use Rattle.std.proofs.lemmas.Option.{slice_get_within}
 use Rattle.smc_words.specs.declared.dir.Dir.TheVariants as dir
 use Rattle.smc_shape.specs.Layout.{Layout, IsShape, slots_of}
@@ -10,6 +11,7 @@ use Rattle.smc_core.specs.declared.call.Call.TheVariants as call
 use Rattle.smc_core.specs.declared.done.Done.{Done}
 use Rattle.smc_core.specs.declared.done.Done.TheVariants as done
 use Rattle.smc_core.specs.declared.local.Opening.{Opening}
+use Rattle.smc_core.specs.declared.local.Stand.{Stand}
 use Rattle.smc_core.specs.declared.phase.Phase.TheVariants as phase
 use Rattle.smc_core.specs.declared.word.State as E
 use Rattle.smc_core.specs.declared.word.State.TheVariants as state
@@ -197,3 +199,50 @@ module _ (opening : Opening) (shape : Layout) (valid : IsShape shape) (start : L
         counts = ap (λ (w : World). count_of w coll) t.says.in_world;
         blocks = same-occupied shape valid coll s0.memory z.memory (still-homes shape coll s0.memory z.memory t.says.still);
       }
+
+-- a machine that was reached, in which the pass is free
+record HasBeenFree (opening : Opening) (shape : Layout) (valid : IsShape shape) (start : List ℕ) (pass : ℕ) (m : Machine) : Type 0 where
+  inside : pass < shape.passes
+  free : IsFreeMoment opening shape valid start pass inside m
+
+first-free : (opening : Opening) (shape : Layout) (valid : IsShape shape) (start : List ℕ) (pass : ℕ) (m : Machine) → IsOpening opening → IsOpened shape opening start → Reach shape start m.row m.locals
+    → IsFree pass m.locals → OthersAside pass m.locals → HasBeenFree opening shape valid start pass m
+first-free opening shape valid start pass m opens opened reached free aside =
+    let b = known-reached opening shape valid start m.row m.locals opens opened reached in
+    let at : b.state.stands pass ≡ free.local.stand = b.backs.same pass free.local free.here in
+    let count : length m.locals ≡ shape.passes = b.backs.count in record {
+      inside = omega (arith, count, slice_get_within m.locals pass free.local free.here);
+      free = record {
+        moment = record {
+          reached = reached;
+          aside = aside;
+          scene = record { state = b.state; backs = b.backs; rule = b.rule };
+          idle = ap (λ (k : Stand). k.phase) at ∙ free.idle;
+        };
+        no_round = ap (λ (k : Stand). k.round) at ∙ free.no_round;
+      };
+    }
+
+-- after a drive the objects are packed
+pub drives-pack : DrivesPack
+drives-pack shape opening start pass m valid opens opened reached free aside coll last drive =
+    let f : HasBeenFree opening shape valid start pass m = first-free opening shape valid start pass m opens opened reached free aside in
+    let d : HasDriven opening shape valid start pass f.inside coll last = drives opening shape valid start pass f.inside coll m last f.free drive in
+    said-of-logs opening shape valid start last opens opened d.free.moment.reached d.free.moment.scene coll (λ (n blocks : ℕ). blocks ≡ blocks_for n) d.packed
+
+-- a survey tells what there is
+pub surveys-tell : SurveysTell
+surveys-tell shape opening start pass m valid opens opened reached free aside coll last answer survey =
+    let f : HasBeenFree opening shape valid start pass m = first-free opening shape valid start pass m opens opened reached free aside in
+    let d : HasSurveyed opening shape valid start pass f.inside coll answer m last f.free = surveys opening shape valid start pass f.inside coll answer m last f.free survey in
+    said-of-logs opening shape valid start last opens opened d.moment.reached d.moment.scene coll (λ (n blocks : ℕ). answer ≡ done.Surveyed coll n blocks) d.tells
+
+-- after a drive these are the fewest blocks
+pub surveys-tell-packed : SurveysTellPacked
+surveys-tell-packed shape opening start pass m valid opens opened reached free aside coll driven last answer drive survey =
+    let f : HasBeenFree opening shape valid start pass m = first-free opening shape valid start pass m opens opened reached free aside in
+    let d : HasDriven opening shape valid start pass f.inside coll driven = drives opening shape valid start pass f.inside coll m driven f.free drive in
+    let t : HasSurveyed opening shape valid start pass f.inside coll answer driven last d.free = surveys opening shape valid start pass f.inside coll answer driven last d.free survey in
+    let blocks : occupied shape t.moment.scene.state.memory coll ≡ blocks_for (count_of t.moment.scene.state.world coll) = t.blocks ∙ (d.packed ∙ ap blocks_for (sym t.counts)) in
+    said-of-logs opening shape valid start last opens opened t.moment.reached t.moment.scene coll (λ (n occupied : ℕ). answer ≡ done.Surveyed coll n (blocks_for n))
+        (t.tells ∙ ap (λ (o : ℕ). done.Surveyed coll (count_of t.moment.scene.state.world coll) o) blocks)
