@@ -85,7 +85,7 @@ module _ (opening : Opening) (shape : Layout) (valid : IsShape shape) (coll epoc
       (sources.count-back opening shape coll epoch many w0 (slots-whole shape coll valid) s e pass within section owned p.at_epoch of slot count p.part)
   begin-goes s e aside within section owned (phase.Begin (begin.Count (walk.Entry of slot count number))) at_sec at_round at_call p = λ told.
       lift s.memory s.world section owned (begin.Count (walk.Entry of slot count number)) (s.memory (place.Entry number.coll number.entry)) p.in_world p.at_epoch
-      (sources.count-entry opening shape coll epoch many w0 (slots-whole shape coll valid) s e pass within section owned p.at_epoch of slot count number p.part.0 p.part.1)
+      (sources.count-entry opening shape coll epoch many w0 (slots-whole shape coll valid) s e pass within section owned p.at_epoch of slot count p.part.0 number p.part.1)
   begin-goes s e aside within section owned (phase.Begin (begin.Nothing of)) at_sec at_round at_call p = λ told. record { in_world = p.in_world; at_epoch = p.at_epoch; part = (refl, (p.part.0, p.part.1, refl)) }
   begin-goes s e aside within section owned (phase.Begin (begin.SourceDirectory moves)) at_sec at_round at_call p = λ told.
       let where_it_is = below shape s (shut e.whole) pass within (begin.SourceDirectory moves) at_call in

@@ -29,7 +29,7 @@ use Rattle.smc_census.specs.Census.{is_home, homes, occupied}
 use Rattle.smc_census.proofs.Always.{blocks_enough, slots-whole}
 use Rattle.smc_census.proofs.BlockLaws.{packed_enough}
 use Rattle.smc_census.proofs.HomeCounts.{home-owner}
-use Rattle.smc_packing.specs.Drive.{IsFree, WaitsAndBegins, FindsNothing, Moves, Drives, Surveys}
+use Rattle.smc_packing.specs.Drive.{StandsIdle, WaitsAndBegins, FindsNothing, Moves, Drives, Surveys}
 use Rattle.smc_packing.specs.Packing.{DrivesPack, SurveysTell, SurveysTellPacked}
 use Rattle.smc_packing.proofs.Begins.{begin-carries}
 use Rattle.smc_packing.proofs.Ends.{known-homes, said-of-logs}
@@ -45,7 +45,7 @@ use Rattle.smc_packing.proofs.Walks.{IsRested, Beginning, BeginEnd}
 
 module _ (opening : Opening) (shape : Layout) (valid : IsShape shape) (start : List ℕ) (pass : ℕ) (inside : pass < shape.passes) where
   -- a moment at which the pass has no round
-  record IsFreeMoment (m : Machine) : Type 0 where
+  record IsIdleMoment (m : Machine) : Type 0 where
     moment : IsMoment opening shape start pass m
     no_round : (moment.scene.state.stands pass).round ≡ None
 
@@ -64,7 +64,7 @@ module _ (opening : Opening) (shape : Layout) (valid : IsShape shape) (start : L
     counts : count_of moment.scene.state.world coll ≡ count_of w0 coll
     ends : BeginEnd shape coll epoch (count_of w0 coll) w0 moment.scene.state.memory answer
 
-  begins : (coll : ℕ) (answer : Done) (m last : Machine) → IsFreeMoment m → WaitsAndBegins shape pass coll answer m last → HasBegun coll answer last
+  begins : (coll : ℕ) (answer : Done) (m last : Machine) → IsIdleMoment m → WaitsAndBegins shape pass coll answer m last → HasBegun coll answer last
   begins coll answer m last free b =
       let s0 : S.State = free.moment.scene.state in
       let w = waits opening shape valid start pass s0.memory s0.world (s0.stands pass).round m b.waited (now m free.moment) b.waits in
@@ -90,7 +90,7 @@ module _ (opening : Opening) (shape : Layout) (valid : IsShape shape) (start : L
 
   -- a drive has ended, and the objects are packed
   record HasDriven (coll : ℕ) (m : Machine) : Type 0 where
-    free : IsFreeMoment m
+    free : IsIdleMoment m
     packed : occupied shape free.moment.scene.state.memory coll ≡ blocks_for (count_of free.moment.scene.state.world coll)
 
   -- a pass has no round where there is none
@@ -98,7 +98,7 @@ module _ (opening : Opening) (shape : Layout) (valid : IsShape shape) (start : L
   none-owned m at none = at.scene.rule.all.whole.rounds.agrees.none_owned pass inside none
 
   -- where there was nothing to do, they were packed before
-  nothing-packs : (coll : ℕ) (m last : Machine) → IsFreeMoment m → FindsNothing shape pass coll m last → HasDriven coll last
+  nothing-packs : (coll : ℕ) (m last : Machine) → IsIdleMoment m → FindsNothing shape pass coll m last → HasDriven coll last
   nothing-packs coll m last free d =
       let b : HasBegun coll (done.Nothing coll) d.begun = begins coll (done.Nothing coll) m d.begun free d.begins in
       let s : S.State = b.moment.scene.state in
@@ -135,7 +135,7 @@ module _ (opening : Opening) (shape : Layout) (valid : IsShape shape) (start : L
       low owner.owner.incarnation owner.owner.entry slot (subst (λ (c : ℕ). state_in s.memory c owner.owner.entry ≡ state.Present owner.owner.incarnation slot) owner.home here)
 
   -- a round that is finished has packed them
-  moves-pack : (coll : ℕ) (m last : Machine) → IsFreeMoment m → Moves shape pass coll m last → HasDriven coll last
+  moves-pack : (coll : ℕ) (m last : Machine) → IsIdleMoment m → Moves shape pass coll m last → HasDriven coll last
   moves-pack coll m last free d =
       let b : HasBegun coll (done.Round coll d.bound d.frozen) d.begun = begins coll (done.Round coll d.bound d.frozen) m d.begun free d.begins in
       let s : S.State = b.moment.scene.state in
@@ -167,18 +167,18 @@ module _ (opening : Opening) (shape : Layout) (valid : IsShape shape) (start : L
       }
 
   -- whichever drive it was
-  drives : (coll : ℕ) (m last : Machine) → IsFreeMoment m → Drives shape pass coll m last → HasDriven coll last
+  drives : (coll : ℕ) (m last : Machine) → IsIdleMoment m → Drives shape pass coll m last → HasDriven coll last
   drives coll m last free (inl nothing) = nothing-packs coll m last free nothing
   drives coll m last free (inr moves) = moves-pack coll m last free moves
 
   -- a survey has told what there is
-  record HasSurveyed (coll : ℕ) (answer : Done) (m last : Machine) (from : IsFreeMoment m) : Type 0 where
+  record HasSurveyed (coll : ℕ) (answer : Done) (m last : Machine) (from : IsIdleMoment m) : Type 0 where
     moment : IsMoment opening shape start pass last
     tells : answer ≡ done.Surveyed coll (count_of moment.scene.state.world coll) (occupied shape moment.scene.state.memory coll)
     counts : count_of moment.scene.state.world coll ≡ count_of from.moment.scene.state.world coll
     blocks : occupied shape moment.scene.state.memory coll ≡ occupied shape from.moment.scene.state.memory coll
 
-  surveys : (coll : ℕ) (answer : Done) (m last : Machine) (free : IsFreeMoment m) → Surveys shape pass coll answer m last → HasSurveyed coll answer m last free
+  surveys : (coll : ℕ) (answer : Done) (m last : Machine) (free : IsIdleMoment m) → Surveys shape pass coll answer m last → HasSurveyed coll answer m last free
   surveys coll answer m last free d =
       let s0 : S.State = free.moment.scene.state in
       let enter : Entered opening shape valid start pass s0.memory s0.world (s0.stands pass).round 0 d.inside = enters opening shape valid start pass s0.memory s0.world (s0.stands pass).round 0 m d.inside (done.At d.epoch) (now m free.moment) (omega arith) d.enters in
@@ -201,13 +201,13 @@ module _ (opening : Opening) (shape : Layout) (valid : IsShape shape) (start : L
       }
 
 -- a machine that was reached, in which the pass is free
-record HasBeenFree (opening : Opening) (shape : Layout) (valid : IsShape shape) (start : List ℕ) (pass : ℕ) (m : Machine) : Type 0 where
+record HasStoodIdle (opening : Opening) (shape : Layout) (valid : IsShape shape) (start : List ℕ) (pass : ℕ) (m : Machine) : Type 0 where
   inside : pass < shape.passes
-  free : IsFreeMoment opening shape valid start pass inside m
+  free : IsIdleMoment opening shape valid start pass inside m
 
-first-free : (opening : Opening) (shape : Layout) (valid : IsShape shape) (start : List ℕ) (pass : ℕ) (m : Machine) → IsOpening opening → IsOpened shape opening start → Reach shape start m.row m.locals
-    → IsFree pass m.locals → OthersAside pass m.locals → HasBeenFree opening shape valid start pass m
-first-free opening shape valid start pass m opens opened reached free aside =
+first-idle : (opening : Opening) (shape : Layout) (valid : IsShape shape) (start : List ℕ) (pass : ℕ) (m : Machine) → IsOpening opening → IsOpened shape opening start → Reach shape start m.row m.locals
+    → StandsIdle pass m.locals → OthersAside pass m.locals → HasStoodIdle opening shape valid start pass m
+first-idle opening shape valid start pass m opens opened reached free aside =
     let b = known-reached opening shape valid start m.row m.locals opens opened reached in
     let at : b.state.stands pass ≡ free.local.stand = b.backs.same pass free.local free.here in
     let count : length m.locals ≡ shape.passes = b.backs.count in record {
@@ -226,21 +226,21 @@ first-free opening shape valid start pass m opens opened reached free aside =
 -- after a drive the objects are packed
 pub drives-pack : DrivesPack
 drives-pack shape opening start pass m valid opens opened reached free aside coll last drive =
-    let f : HasBeenFree opening shape valid start pass m = first-free opening shape valid start pass m opens opened reached free aside in
+    let f : HasStoodIdle opening shape valid start pass m = first-idle opening shape valid start pass m opens opened reached free aside in
     let d : HasDriven opening shape valid start pass f.inside coll last = drives opening shape valid start pass f.inside coll m last f.free drive in
     said-of-logs opening shape valid start last opens opened d.free.moment.reached d.free.moment.scene coll (λ (n blocks : ℕ). blocks ≡ blocks_for n) d.packed
 
 -- a survey tells what there is
 pub surveys-tell : SurveysTell
 surveys-tell shape opening start pass m valid opens opened reached free aside coll last answer survey =
-    let f : HasBeenFree opening shape valid start pass m = first-free opening shape valid start pass m opens opened reached free aside in
+    let f : HasStoodIdle opening shape valid start pass m = first-idle opening shape valid start pass m opens opened reached free aside in
     let d : HasSurveyed opening shape valid start pass f.inside coll answer m last f.free = surveys opening shape valid start pass f.inside coll answer m last f.free survey in
     said-of-logs opening shape valid start last opens opened d.moment.reached d.moment.scene coll (λ (n blocks : ℕ). answer ≡ done.Surveyed coll n blocks) d.tells
 
 -- after a drive these are the fewest blocks
 pub surveys-tell-packed : SurveysTellPacked
 surveys-tell-packed shape opening start pass m valid opens opened reached free aside coll driven last answer drive survey =
-    let f : HasBeenFree opening shape valid start pass m = first-free opening shape valid start pass m opens opened reached free aside in
+    let f : HasStoodIdle opening shape valid start pass m = first-idle opening shape valid start pass m opens opened reached free aside in
     let d : HasDriven opening shape valid start pass f.inside coll driven = drives opening shape valid start pass f.inside coll m driven f.free drive in
     let t : HasSurveyed opening shape valid start pass f.inside coll answer driven last d.free = surveys opening shape valid start pass f.inside coll answer driven last d.free survey in
     let blocks : occupied shape t.moment.scene.state.memory coll ≡ blocks_for (count_of t.moment.scene.state.world coll) = t.blocks ∙ (d.packed ∙ ap blocks_for (sym t.counts)) in

@@ -44,8 +44,9 @@ use Rattle.smc_census.specs.Census.{is_home, owner_is_at}
 use Rattle.smc_census.proofs.CountLaws.{by_test, by_order}
 use Rattle.smc_census.proofs.HomeCounts.{present-slot}
 use Rattle.smc_census.proofs.WalkLaws.{CountsBelow, counts-pass, counts-object}
+use Rattle.smc_packing.proofs.CountSteps.{steps-directory, steps-back, steps-entry}
 use Rattle.smc_packing.proofs.Rooms.{is_valid_in, HasRoom, room-source, ArePassed, passed-next}
-use Rattle.smc_packing.proofs.Walks.{IsRested, IsCounting, IsWalking, IsInHand, HasRoomFor, Beginning, BeginPart, to-source, to-target, counted-next}
+use Rattle.smc_packing.proofs.Walks.{IsRested, IsCounting, IsWalking, IsInHand, HasRoomFor, Beginning, BeginPart, to-source, to-target, after-count}
 use Rattle.smc_packing.proofs.Waiting.{AfterChange}
 
 -- an entry that is a source's says so
@@ -90,34 +91,31 @@ module _ (opening : Opening) (shape : Layout) (coll epoch many : ℕ) (w0 : Worl
   incoming-inside : (slot : ℕ) → dir_in s.memory coll slot ≡ dir.Incoming → slot < slots_of shape coll
   incoming-inside slot is = e.whole.agrees.moves.incoming_in coll slot is
 
-  -- the count goes on with the next slot
-  go-on : (of slot : ℕ) (count : Count) → IsCounting shape coll epoch many w0 s.memory of slot count → (after : Count) → CountsBelow (is_home s.memory coll) (slot + 1) after
-      → AfterChange (Beginning shape coll epoch many w0) s.memory w0 section owned (begin_counting shape epoch (count_next shape of slot after))
-  go-on of slot count k after counts = counted-next shape coll epoch many w0 whole s.memory section owned of slot after at_epoch k.of_it incoming-inside (λ a f slot is. present-inside coll a f slot is) k.rested k.within counts
+  module _ (of slot : ℕ) (count : Count) (k : IsCounting shape coll epoch many w0 s.memory of slot count) where
+    -- what holds once the walk has come here
+    abbrev Counts : Counting → Type 0
+    Counts c = AfterChange (Beginning shape coll epoch many w0) s.memory w0 section owned (begin_counting shape epoch c)
 
-  pub count-directory : (of slot : ℕ) (count : Count) → IsCounting shape coll epoch many w0 s.memory of slot count → After (begin.Count (walk.Directory of slot count)) (s.memory (place.Directory of slot))
-  count-directory of slot count k = cond_both (is_valid (dir_in s.memory of slot)) (Walks (walk.Back of slot count)) (count_next shape of slot count)
-      (λ c. AfterChange (Beginning shape coll epoch many w0) s.memory w0 section owned (begin_counting shape epoch c))
-      (λ t. record { in_world = refl; at_epoch = at_epoch; part = k })
-      (λ n. go-on of slot count k count (counts-pass (is_home s.memory coll) slot count (by_test (is_home s.memory coll slot)
-          (λ home. absurd (let valid = k.rested.home_valid slot k.within home in let other : is_valid_in s.memory coll slot ≡ false = subst (λ (c : ℕ). is_valid_in s.memory c slot ≡ false) k.of_it n in cc))
-          (λ none. none)) k.counted))
+    here : IsCounting shape coll epoch many w0 s.memory coll slot count
+    here = record { rested = k.rested; of_it = refl; within = k.within; counted = k.counted }
 
-  pub count-back : (of slot : ℕ) (count : Count) → IsCounting shape coll epoch many w0 s.memory of slot count → After (begin.Count (walk.Back of slot count)) (s.memory (place.Back of slot))
-  count-back of slot count k = go (back_in s.memory of slot) (subst (λ (c : ℕ). back_in s.memory coll slot ≡ back_in s.memory c slot) (sym k.of_it) refl)
-    where
-      go : (back : Option Number) → back_in s.memory coll slot ≡ back → AfterChange (Beginning shape coll epoch many w0) s.memory w0 section owned (begin_counting shape epoch (count_owner shape of slot count back))
-      go None is = go-on of slot count k count (counts-pass (is_home s.memory coll) slot count (ap (owner_is_at s.memory slot) is) k.counted)
-      go (Some number) is = record { in_world = refl; at_epoch = at_epoch; part = (k, is) }
+    walks : (next : ℕ) (after : Count) → next < slots_of shape coll → CountsBelow (is_home s.memory coll) next after → Counts (Walks (walk.Directory coll next after))
+    walks next after lt counts = record { in_world = refl; at_epoch = at_epoch; part = record { rested = k.rested; of_it = refl; within = lt; counted = counts } }
 
-  pub count-entry : (of slot : ℕ) (count : Count) (number : Number) → IsCounting shape coll epoch many w0 s.memory of slot count → back_in s.memory coll slot ≡ Some number
-      → After (begin.Count (walk.Entry of slot count number)) (s.memory (place.Entry number.coll number.entry))
-  count-entry of slot count number k back =
-      let its : is_home s.memory coll slot ≡ has_object_at number.incarnation slot (state_in s.memory number.coll number.entry) = ap (owner_is_at s.memory slot) back in
-      cond_both (has_object_at number.incarnation slot (state_in s.memory number.coll number.entry)) (with_object slot count) count
-      (λ c. AfterChange (Beginning shape coll epoch many w0) s.memory w0 section owned (begin_counting shape epoch (count_next shape of slot c)))
-      (λ t. go-on of slot count k (with_object slot count) (counts-object (is_home s.memory coll) slot count (its ∙ t) k.counted))
-      (λ n. go-on of slot count k count (counts-pass (is_home s.memory coll) slot count (its ∙ n) k.counted))
+    ends : (after : Count) → CountsBelow (is_home s.memory coll) (slots_of shape coll) after → Counts (Counted coll after)
+    ends after counts = after-count shape coll epoch many w0 whole s.memory section owned after at_epoch incoming-inside (λ a f place is. present-inside coll a f place is) k.rested counts
+
+    pub count-directory : After (begin.Count (walk.Directory of slot count)) (s.memory (place.Directory of slot))
+    count-directory = subst (λ (c : ℕ). After (begin.Count (walk.Directory c slot count)) (s.memory (place.Directory c slot))) (sym k.of_it)
+        (steps-directory shape s.memory coll k.rested.home_valid Counts walks ends slot count k.within k.counted (record { in_world = refl; at_epoch = at_epoch; part = here }))
+
+    pub count-back : After (begin.Count (walk.Back of slot count)) (s.memory (place.Back of slot))
+    count-back = subst (λ (c : ℕ). After (begin.Count (walk.Back c slot count)) (s.memory (place.Back c slot))) (sym k.of_it)
+        (steps-back shape s.memory coll k.rested.home_valid Counts walks ends slot count k.within k.counted (λ number is. record { in_world = refl; at_epoch = at_epoch; part = (here, is) }))
+
+    pub count-entry : (number : Number) → back_in s.memory coll slot ≡ Some number → After (begin.Count (walk.Entry of slot count number)) (s.memory (place.Entry number.coll number.entry))
+    count-entry number back = subst (λ (c : ℕ). After (begin.Count (walk.Entry c slot count number)) (s.memory (place.Entry number.coll number.entry))) (sym k.of_it)
+        (steps-entry shape s.memory coll k.rested.home_valid Counts walks ends slot count number k.within k.counted back)
 
   -- a source in which there is no object without a mark is passed
   pub past-source : (moves : Walk) → IsWalking shape coll epoch many w0 s.memory moves → HasRoomFor shape coll epoch many w0 s.memory moves moves.source moves.target

@@ -39,6 +39,7 @@ use Rattle.smc_census.specs.Census.{is_home, homes, occupied}
 use Rattle.smc_census.specs.Counts.{any_in_block, count_below}
 use Rattle.smc_census.proofs.CountLaws.{count_below-le, count_below-weaker, room_before}
 use Rattle.smc_census.proofs.WalkLaws.{CountsBelow, counts-all}
+use Rattle.smc_packing.proofs.CountSteps.{HomesAreValid}
 use Rattle.smc_packing.proofs.Finishes.{AreLow, TargetsAreLow}
 use Rattle.smc_packing.proofs.Rooms.{is_valid_in, HasRoom, room-some, ArePassed}
 use Rattle.smc_packing.proofs.Runs.{IsStable}
@@ -53,7 +54,7 @@ module _ (shape : Layout) (coll epoch many : ℕ) (w0 : World) where
   -- a collection at rest: so many objects, one in each slot that is valid, and every other slot may be claimed
   pub record IsRested (memory : Memory) : Type 0 where
     pub valid_home : (slot : ℕ) → slot < slots_of shape coll → is_valid_in memory coll slot ≡ true → is_home memory coll slot ≡ true
-    pub home_valid : (slot : ℕ) → slot < slots_of shape coll → is_home memory coll slot ≡ true → is_valid_in memory coll slot ≡ true
+    pub home_valid : HomesAreValid shape memory coll
     pub ripe : (slot : ℕ) → slot < slots_of shape coll → is_valid_in memory coll slot ≡ false → is_ripe_slot epoch (dir_in memory coll slot) ≡ true
     pub present : homes shape memory coll ≡ many
 
@@ -181,7 +182,7 @@ module _ (shape : Layout) (coll epoch many : ℕ) (w0 : World) where
       (λ n. absurd (grind (arith, nat_tests, n, left)))
 
   -- the count is done: there is room for all objects above the kept slots
-  after-count : (whole : slots_of shape coll % BLOCK_SLOTS ≡ 0) (memory : Memory) (section : Section) (owned : Option Owned) (count : Count) → epoch_of section ≡ epoch
+  pub after-count : (whole : slots_of shape coll % BLOCK_SLOTS ≡ 0) (memory : Memory) (section : Section) (owned : Option Owned) (count : Count) → epoch_of section ≡ epoch
       → ((slot : ℕ) → dir_in memory coll slot ≡ dir.Incoming → slot < slots_of shape coll)
       → ((a e slot : ℕ) → state_in memory coll e ≡ state.Present a slot → slot < slots_of shape coll)
       → IsRested memory → CountsBelow (is_home memory coll) (slots_of shape coll) count
@@ -212,16 +213,3 @@ module _ (shape : Layout) (coll epoch many : ℕ) (w0 : World) where
     where
       not-ripe : (d : Dir) → d ≡ dir.Incoming → is_ripe_slot epoch d ≡ true → ⊥
       not-ripe d is r = let no : is_ripe_slot epoch dir.Incoming ≡ true = subst (λ (x : Dir). is_ripe_slot epoch x ≡ true) is r in absurd (cc)
-
-  -- the count has passed a slot
-  pub counted-next : (whole : slots_of shape coll % BLOCK_SLOTS ≡ 0) (memory : Memory) (section : Section) (owned : Option Owned) (of slot : ℕ) (count : Count) → epoch_of section ≡ epoch → of ≡ coll
-      → ((slot : ℕ) → dir_in memory coll slot ≡ dir.Incoming → slot < slots_of shape coll)
-      → ((a e slot : ℕ) → state_in memory coll e ≡ state.Present a slot → slot < slots_of shape coll)
-      → IsRested memory → slot < slots_of shape coll → CountsBelow (is_home memory coll) (slot + 1) count
-      → AfterChange Beginning memory w0 section owned (begin_counting shape epoch (count_next shape of slot count))
-  counted-next whole memory section owned of slot count at_epoch same incoming inside rested lt counts =
-      subst (λ (c : ℕ). AfterChange Beginning memory w0 section owned (begin_counting shape epoch (count_next shape c slot count))) (sym same)
-      (cond_both (nat_lt (slot + 1) (slots_of shape coll)) (Walks (walk.Directory coll (slot + 1) count)) (Counted coll count) (λ (k : Counting). AfterChange Beginning memory w0 section owned (begin_counting shape epoch k))
-      (λ t. record { in_world = refl; at_epoch = at_epoch; part = record { rested = rested; of_it = refl; within = grind (arith, nat_tests, t); counted = counts } })
-      (λ n. after-count whole memory section owned count at_epoch incoming inside rested
-          (subst (λ (k : ℕ). CountsBelow (is_home memory coll) k count) (let end : slot + 1 ≡ slots_of shape coll = grind (arith, nat_tests, n, lt) in end) counts)))

@@ -10,8 +10,8 @@ use Rattle.smc_core.specs.declared.section.Section.TheVariants.{Outside}
 use Rattle.smc_core.specs.Machine.{Machine}
 use Rattle.smc_aside.specs.Makes.{Makes}
 
--- the pass is in no call, outside sections, and has no round
-pub record IsFree (pass : ℕ) (locals : List Local) : Type 0 where
+-- the pass stands idle: in no call, outside sections, without a round
+pub record StandsIdle (pass : ℕ) (locals : List Local) : Type 0 where
   pub local : Local
   pub here : slice_get locals pass ≡ Some local
   pub idle : local.stand.phase ≡ Idle
