@@ -29,13 +29,14 @@ use Rattle.smc_core.specs.Change.{finish_owned}
 use Rattle.smc_core.specs.Finish.{is_early, finish_start, finish_change, finish_offer, first_target}
 use Rattle.smc_core.specs.Offer.{when_owned}
 use Rattle.smc_core.specs.Step.{step, ends}
+use Rattle.smc_core.specs.Words.{dir_of, state_of}
 use Rattle.smc_rules.specs.Calls.{copying_of}
 use Rattle.smc_rules.specs.Memory.{Memory, apply, seen}
 use Rattle.smc_rules.specs.Reads.{round_in, state_in, dir_in, forward_in, object}
 use Rattle.smc_rules.specs.State as S
 use Rattle.smc_laws.proofs.Everything.{Everything}
 use Rattle.smc_packing.proofs.Runs.{IsStable, IsKeptBy, Carries}
-use Rattle.smc_packing.proofs.Stillness.{IsQuiet}
+use Rattle.smc_packing.proofs.Stillness.{IsQuiet, Still}
 use Rattle.smc_packing.proofs.Waiting.{AfterChange}
 
 -- each present object of the collection without a mark is in a kept slot
@@ -45,6 +46,13 @@ AreLow coll kept memory = (a e slot : ℕ) → state_in memory coll e ≡ state.
 -- each slot of it to which an object is to move is a kept one
 abbrev pub TargetsAreLow : ℕ → ℕ → Memory → Type 0
 TargetsAreLow coll kept memory = (slot : ℕ) → dir_in memory coll slot ≡ dir.Incoming → slot < kept
+
+-- so they are where nothing but the epoch and section words has changed
+pub low-still : (coll kept : ℕ) (before after : Memory) → Still before after → AreLow coll kept before → AreLow coll kept after
+low-still coll kept before after still low a e slot is = low a e slot (sym (ap state_of (still (place.Entry coll e) refl)) ∙ is)
+
+pub targets-still : (coll kept : ℕ) (before after : Memory) → Still before after → TargetsAreLow coll kept before → TargetsAreLow coll kept after
+targets-still coll kept before after still low slot is = low slot (sym (ap dir_of (still (place.Directory coll slot) refl)) ∙ is)
 
 -- how far a finish has come: once it has finished the round, there is none
 abbrev FinishPart : Memory → Phase → Option Done → Type 0

@@ -15,4 +15,5 @@ pub mod Moments
 pub mod Rests
 pub mod Homes
 pub mod Ends
+pub mod Drives
 pub mod Packs

@@ -15,11 +15,12 @@ use Rattle.smc_core.specs.declared.word.State as E
 use Rattle.smc_core.specs.declared.word.State.TheVariants as state
 use Rattle.smc_core.specs.Count.{is_valid}
 use Rattle.smc_core.specs.Ripe.{is_ripe_slot}
-use Rattle.smc_core.specs.Words.{dir_of, has_object_at}
+use Rattle.smc_core.specs.Words.{dir_of, round_of, has_object_at}
+use Rattle.smc_rules.specs.Memory.{Memory}
 use Rattle.smc_rules.specs.Reads.{epoch_of_region, round_in, state_in, state_for, dir_in, object}
 use Rattle.smc_rules.specs.State as S
 use Rattle.smc_rules.proofs.CarryLaws.{by_pass}
-use Rattle.smc_agreement.specs.Entries.{stands_at}
+use Rattle.smc_agreement.specs.Entries.{stands_at, IsRoundOf}
 use Rattle.smc_inv_use.specs.Rest as rest
 use Rattle.smc_inv_use.specs.Rest.{IsAtRest, IsSlotAtRest, HasOneObject}
 use Rattle.smc_inv_use.proofs.RestLaws.{only_present, present_in_valid, slot_at_rest}
@@ -28,6 +29,7 @@ use Rattle.smc_aside.specs.Aside.{IsResting}
 use Rattle.smc_census.specs.Census.{is_home, homes}
 use Rattle.smc_census.proofs.HomeCounts.{slot-home, home-owner, HasOwner}
 use Rattle.smc_packing.proofs.CountSteps.{HomesAreValid}
+use Rattle.smc_packing.proofs.Finishes.{AreLow}
 use Rattle.smc_packing.proofs.Known.{Known}
 use Rattle.smc_packing.proofs.Rooms.{is_valid_in}
 use Rattle.smc_packing.proofs.Scenes.{AsideIn}
@@ -115,3 +117,28 @@ module _ (opening : Opening) (shape : Layout) (s : S.State) (k : Known opening s
           omega (arith, k0.all.whole.agrees.objects.stamp_dir coll slot stamp before, later)) is;
       present = refl;
     }
+
+-- without a round no object has a mark
+unmarked : (opening : Opening) (shape : Layout) (s : S.State) (k : Known opening shape s) → round_in s.memory ≡ None → (c e a slot : ℕ) → has_object_at a slot (state_in s.memory c e) ≡ true
+    → state_in s.memory c e ≡ state.Present a slot
+unmarked opening shape s k none c e a slot has = go (state_in s.memory c e) refl has
+  where
+    go : (w : E.State) → state_in s.memory c e ≡ w → has_object_at a slot w ≡ true → w ≡ state.Present a slot
+    go (state.Present own there) is has = grind (arith, nat_tests, has)
+    go (state.Frozen own there) is has = absurd (subst (IsRoundOf c) none (k.all.whole.agrees.moves.frozen c own e there is).0)
+    go (state.Locked own there) is has = absurd (subst (IsRoundOf c) none (k.all.whole.agrees.moves.locked c own e there is).0)
+    go (state.Removed own there f l) is has = absurd (cc)
+    go (state.Free own stamp) is has = absurd (cc)
+    go (state.Claimed own) is has = absurd (cc)
+
+-- so all are in kept slots where those without a mark are
+pub all-low : (opening : Opening) (shape : Layout) (s : S.State) (k : Known opening shape s) (coll kept : ℕ) → round_in s.memory ≡ None → AreLow coll kept s.memory
+    → (slot : ℕ) → slot < slots_of shape coll → is_home s.memory coll slot ≡ true → slot < kept
+all-low opening shape s k coll kept none low slot lt is =
+    let owner = home-owner opening shape s k.all coll slot lt is in
+    let here : state_in s.memory owner.owner.coll owner.owner.entry ≡ state.Present owner.owner.incarnation slot = unmarked opening shape s k none owner.owner.coll owner.owner.entry owner.owner.incarnation slot owner.here in
+    low owner.owner.incarnation owner.owner.entry slot (subst (λ (c : ℕ). state_in s.memory c owner.owner.entry ≡ state.Present owner.owner.incarnation slot) owner.home here)
+
+-- where there was no round there is none while nothing but the epoch and section words changes
+pub round-still : (before after : Memory) → Still before after → round_in before ≡ None → round_in after ≡ None
+round-still before after still none = ap round_of (still place.Round refl) ∙ none
