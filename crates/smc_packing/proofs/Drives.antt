@@ -123,13 +123,12 @@ module _ (opening : Opening) (shape : Layout) (valid : IsShape shape) (start : L
     none : round_in moment.scene.state.memory ≡ None
     in_world : moment.scene.state.world ≡ w0
 
-  finishes-at : (coll kept moved abandoned gone : ℕ) (m last : Machine) (at : IsMoment opening shape start pass m) → AreLow coll kept at.scene.state.memory → TargetsAreLow coll kept at.scene.state.memory
-      → Makes shape pass call.Finish (done.Finished moved abandoned gone) m last → HasFinished coll kept at.scene.state.world last
-  finishes-at coll kept moved abandoned gone m last at low targets makes =
-      let w0 : World = at.scene.state.world in
+  finishes-at : (coll kept moved abandoned gone : ℕ) (w0 : World) (m last : Machine) (at : IsMoment opening shape start pass m) → at.scene.state.world ≡ w0
+      → AreLow coll kept at.scene.state.memory → TargetsAreLow coll kept at.scene.state.memory → Makes shape pass call.Finish (done.Finished moved abandoned gone) m last → HasFinished coll kept w0 last
+  finishes-at coll kept moved abandoned gone w0 m last at world low targets makes =
       let t : Then opening shape valid start pass (Finishing coll kept w0) last (done.Finished moved abandoned gone) =
       calls opening shape valid start pass (Finishing coll kept w0) call.Finish (finish-carries coll kept w0 opening shape pass) m last (done.Finished moved abandoned gone) at makes
-          (record { low = low; targets = targets; in_world = refl; part = tt }) in
+          (record { low = low; targets = targets; in_world = world; part = tt }) in
       record { moment = t.moment; low = t.says.low; none = t.says.part; in_world = t.says.in_world }
 
   -- so it is once the pass has left
@@ -166,10 +165,9 @@ module _ (opening : Opening) (shape : Layout) (valid : IsShape shape) (start : L
       let waited : Advanced opening shape valid start pass s.memory s.world (s.stands pass).round d.answers d.waited = advances opening shape valid start pass s.memory s.world (s.stands pass).round d.answers d.left d.waited left d.advances in
       let enter : Entered opening shape valid start pass s.memory s.world (s.stands pass).round 0 d.inside = enters opening shape valid start pass s.memory s.world (s.stands pass).round 0 d.waited d.inside (done.At d.epoch) waited.still (omega arith) d.enters in
       let z : S.State = enter.still.moment.scene.state in
-      let f : HasFinished coll kept z.world d.finished = finishes-at coll kept d.moved d.abandoned d.gone d.inside d.finished enter.still.moment
+      let f : HasFinished coll kept s.world d.finished = finishes-at coll kept d.moved d.abandoned d.gone s.world d.inside d.finished enter.still.moment enter.still.same.in_world
           (low-still coll kept s.memory z.memory enter.still.same.still b.ends.0) (targets-still coll kept s.memory z.memory enter.still.same.still b.ends.1) d.finishes in
-      finished-packs coll s.world last (finished-left coll kept s.world d.finished last done.Out
-          (record { moment = f.moment; low = f.low; none = f.none; in_world = f.in_world ∙ enter.still.same.in_world }) d.leaves_again)
+      finished-packs coll s.world last (finished-left coll kept s.world d.finished last done.Out f d.leaves_again)
 
   -- whichever drive it was
   pub drives : (coll : ℕ) (m last : Machine) → IsIdleMoment m → Drives shape pass coll m last → HasDriven coll last
