@@ -1,17 +1,15 @@
 -- A begin finds nothing to do, or leaves each object above the kept slots frozen.
-use Rattle.std.proofs.Common.{◌≡◌, ℕ, ◌+◌, ◌%◌, ◌<◌, ◌≤◌, Bool, true, false, Option, Some, None, refl, sym, ap, ◌∙◌, subst, arith}
+use Rattle.std.proofs.Common.{◌≡◌, ℕ, Bool, true, false, Option, Some, None, refl, sym, subst, arith}
 use Rattle.std.specs.Prelude.{nat_lt, IfSome, length}
 use Rattle.smc_words.specs.declared.round.RoundWord.{RoundWord}
 use Rattle.std.proofs.lemmas.Bool.Decides.{nat_tests}
-use Rattle.smc_shape.specs.Layout.{Layout, IsShape, slots_of}
-use Rattle.smc_shape.specs.declared.coll.TheConstants.{BLOCK_SLOTS}
+use Rattle.smc_shape.specs.Layout.{Layout, IsShape}
 use Rattle.smc_shape.specs.declared.place.Place.TheVariants as place
 use Rattle.smc_model.specs.World.{World}
 use Rattle.smc_core.specs.declared.call.Call.TheVariants as call
 use Rattle.smc_core.specs.declared.call.Choice.TheVariants.{Start, Go}
 use Rattle.smc_core.specs.declared.local.Opening.{Opening}
 use Rattle.smc_core.specs.declared.local.Owned.{Owned}
-use Rattle.smc_core.specs.declared.op.Op.TheVariants.{Exchange}
 use Rattle.smc_core.specs.declared.phase.Phase.TheVariants as phase
 use Rattle.smc_core.specs.declared.phase.moves.BeginPhase.{BeginPhase}
 use Rattle.smc_core.specs.declared.phase.moves.BeginPhase.TheVariants as begin
@@ -19,20 +17,15 @@ use Rattle.smc_core.specs.declared.phase.moves.CountPhase.TheVariants as walk
 use Rattle.smc_core.specs.declared.section.Section.{Section}
 use Rattle.smc_core.specs.declared.section.Section.TheVariants.{Inside}
 use Rattle.smc_core.specs.declared.word.Word.{Word}
-use Rattle.smc_core.specs.declared.word.Word.TheVariants as word
 use Rattle.smc_core.specs.Begin.{begin_change, begin_offer, round_offer, round_seen}
-use Rattle.smc_core.specs.Count.{no_count}
 use Rattle.smc_core.specs.Section.{epoch_of}
 use Rattle.smc_core.specs.Local.{round_begun}
 use Rattle.smc_core.specs.Step.{when}
 use Rattle.smc_core.specs.Words.{round_of}
-use Rattle.smc_rules.specs.Calls.{sources_of, targets_of}
 use Rattle.smc_rules.specs.Memory.{Memory, apply, seen}
 use Rattle.smc_rules.specs.Reads.{round_in}
-use Rattle.smc_rules.specs.State as S
 use Rattle.smc_agreement.proofs.CrossLaws.{below}
 use Rattle.smc_agreement.proofs.Whole.{shut}
-use Rattle.smc_laws.proofs.Everything.{Everything}
 use Rattle.smc_census.specs.Census.{is_home}
 use Rattle.smc_census.proofs.Always.{slots-whole}
 use Rattle.smc_census.proofs.WalkLaws.{counts-none}
@@ -40,7 +33,7 @@ use Rattle.smc_packing.proofs.Runs.{IsKeptBy, Carries}
 use Rattle.smc_packing.proofs.Sources as sources
 use Rattle.smc_packing.proofs.Targets as targets
 use Rattle.smc_packing.proofs.Waiting.{AfterChange}
-use Rattle.smc_packing.proofs.Walks.{IsRested, Beginning, begin-stable, begin-idle}
+use Rattle.smc_packing.proofs.Walks.{Beginning, begin-stable, begin-idle}
 
 module _ (opening : Opening) (shape : Layout) (valid : IsShape shape) (coll epoch many : ℕ) (w0 : World) (pass : ℕ) where
   -- the round word is exchanged, and the count begins

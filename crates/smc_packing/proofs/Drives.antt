@@ -1,46 +1,29 @@
 -- A drive leaves the present objects of the collection in the fewest blocks.
-use Rattle.std.proofs.Common.{◌≡◌, ◌⊎◌, ℕ, ◌+◌, ◌*◌, ◌%◌, ◌<◌, ◌≤◌, Bool, true, false, Option, Some, None, List, length, refl, sym, ap, ◌∙◌, subst, inl, inr, arith}
-use Rattle.std.proofs.lemmas.Bool.Decides.{nat_tests}
-use Rattle.std.proofs.lemmas.Option.{slice_get_within}
-use Rattle.smc_words.specs.declared.dir.Dir.TheVariants as dir
+use Rattle.std.proofs.Common.{◌≡◌, ℕ, ◌+◌, ◌*◌, ◌<◌, ◌≤◌, None, List, refl, sym, ap, ◌∙◌, subst, inl, inr, arith}
 use Rattle.smc_shape.specs.Layout.{Layout, IsShape, slots_of}
 use Rattle.smc_shape.specs.declared.coll.TheConstants.{BLOCK_SLOTS}
-use Rattle.smc_shape.specs.declared.place.Place.TheVariants as place
 use Rattle.smc_model.specs.World.{World, count_of}
 use Rattle.smc_core.specs.declared.call.Call.TheVariants as call
 use Rattle.smc_core.specs.declared.done.Done.{Done}
 use Rattle.smc_core.specs.declared.done.Done.TheVariants as done
 use Rattle.smc_core.specs.declared.local.Opening.{Opening}
-use Rattle.smc_core.specs.declared.local.Stand.{Stand}
-use Rattle.smc_core.specs.declared.phase.Phase.TheVariants as phase
-use Rattle.smc_core.specs.declared.word.State as E
-use Rattle.smc_core.specs.declared.word.State.TheVariants as state
 use Rattle.smc_core.specs.Count.{blocks_for}
-use Rattle.smc_core.specs.Machine.{Machine, IsOpening, IsOpened, Reach}
+use Rattle.smc_core.specs.Machine.{Machine}
 use Rattle.smc_core.specs.Section.{epoch_of}
-use Rattle.smc_core.specs.Words.{dir_of, round_of, state_of, has_object_at}
-use Rattle.smc_rules.specs.Memory.{Memory}
-use Rattle.smc_rules.specs.Reads.{epoch_of_region, round_in, state_in, state_for, dir_in}
+use Rattle.smc_rules.specs.Reads.{epoch_of_region, round_in}
 use Rattle.smc_rules.specs.State as S
-use Rattle.smc_agreement.specs.Entries.{IsRoundOf}
-use Rattle.smc_aside.specs.Aside.{OthersAside}
 use Rattle.smc_aside.specs.Makes.{Makes}
 use Rattle.smc_census.specs.Census.{is_home, homes, occupied}
 use Rattle.smc_census.proofs.Always.{blocks_enough, slots-whole}
 use Rattle.smc_census.proofs.BlockLaws.{packed_enough}
-use Rattle.smc_census.proofs.HomeCounts.{home-owner}
-use Rattle.smc_packing.specs.Drive.{StandsIdle, WaitsAndBegins, FindsNothing, Moves, Drives, Surveys}
-use Rattle.smc_packing.specs.Packing.{DrivesPack, SurveysTell, SurveysTellPacked}
+use Rattle.smc_packing.specs.Drive.{WaitsAndBegins, FindsNothing, Moves, Drives}
 use Rattle.smc_packing.proofs.Begins.{begin-carries}
-use Rattle.smc_packing.proofs.Ends.{known-homes, said-of-logs}
+use Rattle.smc_packing.proofs.Ends.{known-homes}
 use Rattle.smc_packing.proofs.Finishes.{AreLow, TargetsAreLow, low-still, targets-still, Finishing, finish-carries}
 use Rattle.smc_packing.proofs.Homes.{same-occupied, still-homes}
-use Rattle.smc_packing.proofs.Known.{Known, known-reached}
 use Rattle.smc_packing.proofs.Moments.{IsMoment, Then, calls, Since, leaves, Entered, enters, Advanced, advances, waits}
-use Rattle.smc_packing.proofs.Rests.{homes-valid, rested, all-low, round-still}
-use Rattle.smc_packing.proofs.Scenes.{Scene, AsideIn, aside-in}
-use Rattle.smc_packing.proofs.Stillness.{Still}
-use Rattle.smc_packing.proofs.Surveys.{Surveying, survey-carries}
+use Rattle.smc_packing.proofs.Rests.{rested, all-low, round-still}
+use Rattle.smc_packing.proofs.Scenes.{aside-in}
 use Rattle.smc_packing.proofs.Walks.{IsRested, Beginning, BeginEnd}
 
 module _ (opening : Opening) (shape : Layout) (valid : IsShape shape) (start : List ℕ) (pass : ℕ) (inside : pass < shape.passes) where
@@ -77,7 +60,7 @@ module _ (opening : Opening) (shape : Layout) (valid : IsShape shape) (start : L
       let w0 : World = at.scene.state.world in
       let t : Then opening shape valid start pass (Beginning shape coll epoch (count_of w0 coll) w0) last answer =
       calls opening shape valid start pass (Beginning shape coll epoch (count_of w0 coll) w0) (call.Begin coll) (begin-carries opening shape valid coll epoch (count_of w0 coll) w0 pass) m last answer at makes
-          (record { in_world = refl; at_epoch = at_epoch; part = rest }) in record {
+      (record { in_world = refl; at_epoch = at_epoch; part = rest }) in record {
         moment = t.moment;
         epoch = epoch;
         ends = subst (λ (z : World). BeginEnd shape coll epoch (count_of z coll) z t.moment.scene.state.memory answer) (sym t.says.in_world) t.says.part.1;
@@ -94,7 +77,7 @@ module _ (opening : Opening) (shape : Layout) (valid : IsShape shape) (start : L
       let s : S.State = at.scene.state in
       let x : ℕ = epoch_of (s.stands pass).section in
       begins-at coll (epoch_of (s.stands pass).section) answer b.inside last at refl (subst (λ (n : ℕ). IsRested shape coll (epoch_of (s.stands pass).section) n s.world s.memory) (known-homes opening shape s at.scene.rule coll)
-          (rested opening shape s at.scene.rule pass (aside-in opening shape b.inside at.scene pass at.aside) at.idle (enter.still.same.round ∙ free.no_round) coll s0 free.moment.scene.rule x s.world enter.still.same.still enter.above)) b.begins
+      (rested opening shape s at.scene.rule pass (aside-in opening shape b.inside at.scene pass at.aside) at.idle (enter.still.same.round ∙ free.no_round) coll s0 free.moment.scene.rule x s.world enter.still.same.still enter.above)) b.begins
 
   -- a drive has ended, and the objects are packed
   pub record HasDriven (coll : ℕ) (m : Machine) : Type 0 where
@@ -128,7 +111,7 @@ module _ (opening : Opening) (shape : Layout) (valid : IsShape shape) (start : L
   finishes-at coll kept moved abandoned gone w0 m last at world low targets makes =
       let t : Then opening shape valid start pass (Finishing coll kept w0) last (done.Finished moved abandoned gone) =
       calls opening shape valid start pass (Finishing coll kept w0) call.Finish (finish-carries coll kept w0 opening shape pass) m last (done.Finished moved abandoned gone) at makes
-          (record { low = low; targets = targets; in_world = world; part = tt }) in
+      (record { low = low; targets = targets; in_world = world; part = tt }) in
       record { moment = t.moment; low = t.says.low; none = t.says.part; in_world = t.says.in_world }
 
   -- so it is once the pass has left
@@ -166,7 +149,7 @@ module _ (opening : Opening) (shape : Layout) (valid : IsShape shape) (start : L
       let enter : Entered opening shape valid start pass s.memory s.world (s.stands pass).round 0 d.inside = enters opening shape valid start pass s.memory s.world (s.stands pass).round 0 d.waited d.inside (done.At d.epoch) waited.still (omega arith) d.enters in
       let z : S.State = enter.still.moment.scene.state in
       let f : HasFinished coll kept s.world d.finished = finishes-at coll kept d.moved d.abandoned d.gone s.world d.inside d.finished enter.still.moment enter.still.same.in_world
-          (low-still coll kept s.memory z.memory enter.still.same.still b.ends.0) (targets-still coll kept s.memory z.memory enter.still.same.still b.ends.1) d.finishes in
+      (low-still coll kept s.memory z.memory enter.still.same.still b.ends.0) (targets-still coll kept s.memory z.memory enter.still.same.still b.ends.1) d.finishes in
       finished-packs coll s.world last (finished-left coll kept s.world d.finished last done.Out f d.leaves_again)
 
   -- whichever drive it was

@@ -1,5 +1,5 @@
 -- What is known of a state behind the last machine, said of the plain world of its logs.
-use Rattle.std.proofs.Common.{◌≡◌, ℕ, ◌<◌, refl, sym, ap, ◌∙◌, subst, List}
+use Rattle.std.proofs.Common.{◌≡◌, ℕ, sym, ◌∙◌, subst, List}
 use Rattle.smc_shape.specs.Layout.{Layout, IsShape}
 use Rattle.smc_model.specs.Order.{events_of}
 use Rattle.smc_model.specs.World.{count_of}
@@ -30,7 +30,7 @@ said-of-logs opening shape valid start m opens opened reached scene coll Holds h
     let same : SameHomes shape coll scene.state.memory b.state.memory = one-homes shape m.row m.locals scene.state b.state scene.backs b.backs opening coll scene.rule.all in
     let count : count_of b.state.world coll ≡ count_of scene.state.world coll =
     sym (homes-objects opening shape b.state b.rule (home-reached (events_of b.order) b.state.world b.replay) coll)
-        ∙ (same-homes shape valid coll scene.state.memory b.state.memory same ∙ known-homes opening shape scene.state scene.rule coll) in
+    ∙ (same-homes shape valid coll scene.state.memory b.state.memory same ∙ known-homes opening shape scene.state scene.rule coll) in
     let blocks : occupied shape b.state.memory coll ≡ occupied shape scene.state.memory coll = same-occupied shape valid coll scene.state.memory b.state.memory same in record {
       state = b.state;
       backs = b.backs;

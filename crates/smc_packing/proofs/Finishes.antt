@@ -1,5 +1,5 @@
 -- A finish brings no object above the kept slots, and leaves none frozen or locked.
-use Rattle.std.proofs.Common.{◌≡◌, ℕ, ◌+◌, ◌<◌, ◌==◌, ◌&&◌, Bool, true, false, Option, Some, None, refl, sym, ap, ◌∙◌, subst, arith}
+use Rattle.std.proofs.Common.{◌≡◌, ℕ, ◌<◌, Bool, true, false, Option, Some, None, refl, sym, ap, ◌∙◌, subst, arith}
 use Rattle.std.specs.Prelude.{IfSome, if◌then◌else◌}
 use Rattle.std.proofs.lemmas.Bool.Decides.{nat_tests}
 use Rattle.smc_words.specs.declared.dir.Dir.TheVariants as dir
@@ -13,8 +13,7 @@ use Rattle.smc_core.specs.declared.done.Done.{Done}
 use Rattle.smc_core.specs.declared.done.Done.TheVariants as done
 use Rattle.smc_core.specs.declared.local.Opening.{Opening}
 use Rattle.smc_core.specs.declared.local.Owned.{Owned}
-use Rattle.smc_core.specs.declared.op.Op.{Op}
-use Rattle.smc_core.specs.declared.op.Op.TheVariants.{Load, Store, Exchange}
+use Rattle.smc_core.specs.declared.op.Op.TheVariants.{Load, Exchange}
 use Rattle.smc_core.specs.declared.phase.Phase.{Phase}
 use Rattle.smc_core.specs.declared.phase.Phase.TheVariants as phase
 use Rattle.smc_core.specs.declared.phase.moves.FinishPhase.TheVariants as finish
@@ -23,7 +22,6 @@ use Rattle.smc_core.specs.declared.phase.objects.CopyPhase.TheVariants as copy
 use Rattle.smc_core.specs.declared.section.Section.{Section}
 use Rattle.smc_core.specs.declared.section.Section.TheVariants.{Inside}
 use Rattle.smc_core.specs.declared.word.State.TheVariants as state
-use Rattle.smc_core.specs.declared.word.Word.{Word}
 use Rattle.smc_core.specs.declared.word.Word.TheVariants as word
 use Rattle.smc_core.specs.Change.{finish_owned}
 use Rattle.smc_core.specs.Finish.{is_early, finish_start, finish_change, finish_offer, first_target}
@@ -32,11 +30,11 @@ use Rattle.smc_core.specs.Step.{step, ends}
 use Rattle.smc_core.specs.Words.{dir_of, state_of}
 use Rattle.smc_rules.specs.Calls.{copying_of}
 use Rattle.smc_rules.specs.Memory.{Memory, apply, seen}
-use Rattle.smc_rules.specs.Reads.{round_in, state_in, dir_in, forward_in, object}
+use Rattle.smc_rules.specs.Reads.{round_in, state_in, dir_in}
 use Rattle.smc_rules.specs.State as S
 use Rattle.smc_laws.proofs.Everything.{Everything}
 use Rattle.smc_packing.proofs.Runs.{IsStable, IsKeptBy, Carries}
-use Rattle.smc_packing.proofs.Stillness.{IsQuiet, Still}
+use Rattle.smc_packing.proofs.Stillness.{Still}
 use Rattle.smc_packing.proofs.Waiting.{AfterChange}
 
 -- each present object of the collection without a mark is in a kept slot

@@ -1,9 +1,9 @@
 -- Two memories that have their present objects in the same slots have as many of them, in as many blocks.
-use Rattle.std.proofs.Common.{◌≡◌, ℕ, ◌+◌, ◌*◌, ◌/◌, ◌%◌, ◌<◌, ◌≤◌, Bool, true, false, Option, Some, None, List, refl, sym, ap, ◌∙◌, subst, arith}
-use Rattle.std.specs.Prelude.{nat_lt, slice_get, slice_index}
+use Rattle.std.proofs.Common.{◌≡◌, ℕ, ◌+◌, ◌%◌, ◌<◌, Option, Some, None, List, refl, sym, ap, ◌∙◌, subst, arith}
+use Rattle.std.specs.Prelude.{nat_lt}
 use Rattle.smc_words.specs.declared.number.Number.{Number}
 use Rattle.smc_shape.specs.Layout.{Layout, IsShape, slots_of}
-use Rattle.smc_shape.specs.Places.{InRange, at}
+use Rattle.smc_shape.specs.Places.{InRange}
 use Rattle.smc_shape.specs.declared.coll.TheConstants.{BLOCK_SLOTS}
 use Rattle.smc_shape.specs.declared.place.Place.{Place}
 use Rattle.smc_shape.specs.declared.place.Place.TheVariants as place
@@ -14,14 +14,14 @@ use Rattle.smc_core.specs.Row.{unpacked}
 use Rattle.smc_core.specs.Words.{back_of, state_of, has_object_at}
 use Rattle.smc_rules.specs.Memory.{Memory}
 use Rattle.smc_rules.specs.Mirror.{anywhere}
-use Rattle.smc_rules.specs.Reads.{back_in, state_for}
+use Rattle.smc_rules.specs.Reads.{back_in}
 use Rattle.smc_rules.specs.State as S
 use Rattle.smc_rules.specs.State.{Backs}
 use Rattle.smc_rules.proofs.ReadBack.{unpacked-packed}
 use Rattle.smc_inv_range.proofs.Memories as ranges
 use Rattle.smc_laws.proofs.Everything.{Everything}
 use Rattle.smc_census.specs.Census.{owner_is_at, is_home, homes, occupied, blocks_of}
-use Rattle.smc_census.specs.Counts.{any_in_block, block_start, count_between}
+use Rattle.smc_census.specs.Counts.{any_in_block, block_start}
 use Rattle.smc_census.proofs.CountLaws.{count_below-same, count_between-same}
 use Rattle.smc_census.proofs.Always.{slots-whole}
 use Rattle.smc_packing.proofs.Stillness.{Still}

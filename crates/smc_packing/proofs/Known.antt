@@ -1,9 +1,8 @@
 -- All that is known of a state: what every state keeps, the users of its slots, and that events have made its world.
-use Rattle.std.proofs.Common.{◌≡◌, ℕ, zero, suc, Option, Some, None, List, [], ◌∷◌, ◌++◌, refl, sym, ap, ◌∙◌, subst, arith}
+use Rattle.std.proofs.Common.{◌≡◌, ℕ, zero, suc, Some, List, [], ◌∷◌, ◌++◌, refl, sym, ap, subst}
 use Rattle.std.specs.Prelude.{replicate, slice_get}
 use Rattle.std.proofs.lemmas.List.{length-replicate}
 use Rattle.smc_shape.specs.Layout.{Layout, IsShape}
-use Rattle.smc_model.specs.declared.event.Event.{Event}
 use Rattle.smc_model.specs.Order.{log_of}
 use Rattle.smc_core.specs.declared.call.Choice.{Choice}
 use Rattle.smc_core.specs.declared.local.Local.{Local}

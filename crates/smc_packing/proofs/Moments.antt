@@ -1,18 +1,15 @@
 -- Moments between the calls of a pass that works alone, and what its calls make of them.
-use Rattle.std.proofs.Common.{◌≡◌, ◌≢◌, ℕ, ◌+◌, ◌<◌, ◌≤◌, Option, Some, None, List, [], ◌∷◌, refl, sym, ap, ◌∙◌, subst, arith}
-use Rattle.std.specs.Prelude.{IfSome, slice_get}
+use Rattle.std.proofs.Common.{◌≡◌, ℕ, ◌+◌, ◌≤◌, Option, Some, None, List, [], ◌∷◌, refl, sym, ◌∙◌, subst, arith}
+use Rattle.std.specs.Option.{option_or}
 use Rattle.smc_shape.specs.Layout.{Layout, IsShape}
 use Rattle.smc_model.specs.World.{World}
 use Rattle.smc_core.specs.declared.call.Call.{Call}
 use Rattle.smc_core.specs.declared.call.Call.TheVariants as call
 use Rattle.smc_core.specs.declared.done.Done.{Done}
-use Rattle.smc_core.specs.declared.done.Done.TheVariants as done
 use Rattle.smc_core.specs.declared.local.Opening.{Opening}
 use Rattle.smc_core.specs.declared.local.Owned.{Owned}
 use Rattle.smc_core.specs.declared.phase.Phase.{Phase}
 use Rattle.smc_core.specs.declared.phase.Phase.TheVariants as phase
-use Rattle.smc_core.specs.declared.section.Section.{Section}
-use Rattle.smc_core.specs.declared.section.Section.TheVariants.{Outside, Loaded, Announced, Again, Lasting, Inside}
 use Rattle.smc_core.specs.Machine.{Machine, Reach}
 use Rattle.smc_core.specs.Section.{epoch_of}
 use Rattle.smc_rules.specs.Memory.{Memory}
@@ -21,7 +18,7 @@ use Rattle.smc_rules.specs.State as S
 use Rattle.smc_aside.specs.Aside.{OthersAside}
 use Rattle.smc_aside.specs.Makes.{Makes}
 use Rattle.smc_aside.proofs.AsideLaws.{others-aside}
-use Rattle.smc_packing.specs.Drive.{names, Advances, first_named, last_named, or_else, Waits}
+use Rattle.smc_packing.specs.Drive.{names, Advances, first_named, last_named, Waits}
 use Rattle.smc_packing.proofs.Known.{reach-on}
 use Rattle.smc_packing.proofs.Runs.{Saying, Carries, Said, said-after}
 use Rattle.smc_packing.proofs.Scenes.{Scene}
@@ -59,7 +56,7 @@ module _ (opening : Opening) (shape : Layout) (valid : IsShape shape) (start : L
   calls P call c m last answer at makes says =
       let s : S.State = at.scene.state in
       let said : Said P opening shape valid pass call c last (Some answer) = said-after P opening shape valid pass call c m last answer makes at.aside
-          (record { scene = at.scene; says = subst (λ (x : Phase). P s.memory s.world (s.stands pass).section (s.stands pass).round x None) (sym at.idle) says }) in
+      (record { scene = at.scene; says = subst (λ (x : Phase). P s.memory s.world (s.stands pass).section (s.stands pass).round x None) (sym at.idle) says }) in
       let t : S.State = said.scene.state in
       let idle : (t.stands pass).phase ≡ phase.Idle = c.idle t.memory t.world (t.stands pass).section (t.stands pass).round (t.stands pass).phase answer said.says in
       record {
@@ -93,7 +90,7 @@ module _ (opening : Opening) (shape : Layout) (valid : IsShape shape) (start : L
     enters least m last answer at le makes =
         let s : S.State = at.moment.scene.state in
         let t : Then (Entering s.memory s.world (s.stands pass).round) last answer = calls (Entering s.memory s.world (s.stands pass).round) call.Enter (enter-carries s.memory s.world (s.stands pass).round opening shape pass) m last answer at.moment makes
-            (record { same = record { still = λ there is. refl; epoch = omega arith; in_world = refl; round = refl }; part = tt }) in
+        (record { same = record { still = λ there is. refl; epoch = omega arith; in_world = refl; round = refl }; part = tt }) in
         let z : S.State = t.moment.scene.state in
         record {
           still = record { moment = t.moment; same = same-trans m0 s.memory z.memory w0 s.world z.world r0 (s.stands pass).round (z.stands pass).round at.same t.says.same };
@@ -127,7 +124,7 @@ module _ (opening : Opening) (shape : Layout) (valid : IsShape shape) (start : L
           latest = λ e its. (names-since next answer t e its).1;
         })
       where
-        first-of : (named : Option ℕ) (e : ℕ) → or_else named None ≡ Some e → named ≡ Some e
+        first-of : (named : Option ℕ) (e : ℕ) → option_or named None ≡ Some e → named ≡ Some e
         first-of None e is = is
         first-of (Some n) e is = is
     advances (answer ∷ more ∷ later) m last at (next, makes, on) =
@@ -138,7 +135,7 @@ module _ (opening : Opening) (shape : Layout) (valid : IsShape shape) (start : L
           latest = rest.latest;
         }
       where
-        first-of : (named : Option ℕ) → names answer ≡ named → (e : ℕ) → or_else named (first_named (more ∷ later)) ≡ Some e
+        first-of : (named : Option ℕ) → names answer ≡ named → (e : ℕ) → option_or named (first_named (more ∷ later)) ≡ Some e
             → (names answer ≡ Some e → epoch_of_region m0 + 1 ≤ e) → (first_named (more ∷ later) ≡ Some e → epoch_of_region m0 + 1 ≤ e) → epoch_of_region m0 + 1 ≤ e
         first-of None same e is here there = there is
         first-of (Some n) same e is here there = here (same ∙ is)

@@ -1,48 +1,28 @@
 -- What drives and surveys leave and tell, from each machine that steps lead to.
-use Rattle.std.proofs.Common.{◌≡◌, ◌⊎◌, ℕ, ◌+◌, ◌*◌, ◌%◌, ◌<◌, ◌≤◌, Bool, true, false, Option, Some, None, List, length, refl, sym, ap, ◌∙◌, subst, inl, inr, arith}
-use Rattle.std.proofs.lemmas.Bool.Decides.{nat_tests}
+use Rattle.std.proofs.Common.{◌≡◌, ℕ, ◌<◌, None, List, length, sym, ap, ◌∙◌, arith}
 use Rattle.std.proofs.lemmas.Option.{slice_get_within}
-use Rattle.smc_words.specs.declared.dir.Dir.TheVariants as dir
-use Rattle.smc_shape.specs.Layout.{Layout, IsShape, slots_of}
-use Rattle.smc_shape.specs.declared.coll.TheConstants.{BLOCK_SLOTS}
-use Rattle.smc_shape.specs.declared.place.Place.TheVariants as place
+use Rattle.smc_shape.specs.Layout.{Layout, IsShape}
 use Rattle.smc_model.specs.World.{World, count_of}
 use Rattle.smc_core.specs.declared.call.Call.TheVariants as call
 use Rattle.smc_core.specs.declared.done.Done.{Done}
 use Rattle.smc_core.specs.declared.done.Done.TheVariants as done
 use Rattle.smc_core.specs.declared.local.Opening.{Opening}
 use Rattle.smc_core.specs.declared.local.Stand.{Stand}
-use Rattle.smc_core.specs.declared.phase.Phase.TheVariants as phase
-use Rattle.smc_core.specs.declared.word.State as E
-use Rattle.smc_core.specs.declared.word.State.TheVariants as state
 use Rattle.smc_core.specs.Count.{blocks_for}
 use Rattle.smc_core.specs.Machine.{Machine, IsOpening, IsOpened, Reach}
-use Rattle.smc_core.specs.Section.{epoch_of}
-use Rattle.smc_core.specs.Words.{dir_of, round_of, state_of, has_object_at}
-use Rattle.smc_rules.specs.Memory.{Memory}
-use Rattle.smc_rules.specs.Reads.{epoch_of_region, round_in, state_in, state_for, dir_in}
 use Rattle.smc_rules.specs.State as S
-use Rattle.smc_agreement.specs.Entries.{IsRoundOf}
 use Rattle.smc_aside.specs.Aside.{OthersAside}
-use Rattle.smc_aside.specs.Makes.{Makes}
-use Rattle.smc_census.specs.Census.{is_home, homes, occupied}
-use Rattle.smc_census.proofs.Always.{blocks_enough, slots-whole}
-use Rattle.smc_census.proofs.BlockLaws.{packed_enough}
-use Rattle.smc_census.proofs.HomeCounts.{home-owner}
-use Rattle.smc_packing.specs.Drive.{StandsIdle, WaitsAndBegins, FindsNothing, Moves, Drives, Surveys}
+use Rattle.smc_census.specs.Census.{occupied}
+use Rattle.smc_packing.specs.Drive.{StandsIdle, Surveys}
 use Rattle.smc_packing.specs.Packing.{DrivesPack, SurveysTell, SurveysTellPacked}
-use Rattle.smc_packing.proofs.Begins.{begin-carries}
 use Rattle.smc_packing.proofs.Drives.{IsIdleMoment, now, HasDriven, drives}
 use Rattle.smc_packing.proofs.Ends.{known-homes, said-of-logs}
-use Rattle.smc_packing.proofs.Finishes.{AreLow, TargetsAreLow, low-still, targets-still, Finishing, finish-carries}
 use Rattle.smc_packing.proofs.Homes.{same-occupied, still-homes}
-use Rattle.smc_packing.proofs.Known.{Known, known-reached}
-use Rattle.smc_packing.proofs.Moments.{IsMoment, Then, calls, Since, leaves, Entered, enters, Advanced, advances, waits}
-use Rattle.smc_packing.proofs.Rests.{homes-valid, rested, all-low, round-still}
-use Rattle.smc_packing.proofs.Scenes.{Scene, AsideIn, aside-in}
-use Rattle.smc_packing.proofs.Stillness.{Still}
+use Rattle.smc_packing.proofs.Known.{known-reached}
+use Rattle.smc_packing.proofs.Moments.{IsMoment, Then, calls, Entered, enters}
+use Rattle.smc_packing.proofs.Rests.{homes-valid}
+use Rattle.smc_packing.proofs.Scenes.{aside-in}
 use Rattle.smc_packing.proofs.Surveys.{Surveying, survey-carries}
-use Rattle.smc_packing.proofs.Walks.{IsRested, Beginning, BeginEnd}
 
 module _ (opening : Opening) (shape : Layout) (valid : IsShape shape) (start : List ℕ) (pass : ℕ) (inside : pass < shape.passes) where
   -- a survey has told what there is
@@ -61,12 +41,12 @@ module _ (opening : Opening) (shape : Layout) (valid : IsShape shape) (start : L
       let none : (s.stands pass).round ≡ None = enter.still.same.round ∙ free.no_round in
       let t : Then opening shape valid start pass (Surveying opening shape valid coll s0.memory s0.world pass) last answer =
       calls opening shape valid start pass (Surveying opening shape valid coll s0.memory s0.world pass) (call.Survey coll) (survey-carries opening shape valid coll s0.memory s0.world pass) d.inside last answer at d.surveys
-          (record {
-            still = enter.still.same.still;
-            in_world = enter.still.same.in_world;
-            valid_homes = homes-valid opening shape s at.scene.rule pass (aside-in opening shape d.inside at.scene pass at.aside) at.idle none coll;
-            part = tt;
-          }) in
+      (record {
+        still = enter.still.same.still;
+        in_world = enter.still.same.in_world;
+        valid_homes = homes-valid opening shape s at.scene.rule pass (aside-in opening shape d.inside at.scene pass at.aside) at.idle none coll;
+        part = tt;
+      }) in
       let z : S.State = t.moment.scene.state in record {
         moment = t.moment;
         tells = t.says.part.1 ∙ ap (λ (n : ℕ). done.Surveyed coll n (occupied shape z.memory coll)) (known-homes opening shape z t.moment.scene.rule coll);
@@ -119,4 +99,4 @@ surveys-tell-packed shape opening start pass m valid opens opened reached free a
     let t : HasSurveyed opening shape valid start pass f.inside coll answer driven last d.idle = surveys opening shape valid start pass f.inside coll answer driven last d.idle survey in
     let blocks : occupied shape t.moment.scene.state.memory coll ≡ blocks_for (count_of t.moment.scene.state.world coll) = t.blocks ∙ (d.packed ∙ ap blocks_for (sym t.counts)) in
     said-of-logs opening shape valid start last opens opened t.moment.reached t.moment.scene coll (λ (n occupied : ℕ). answer ≡ done.Surveyed coll n (blocks_for n))
-        (t.tells ∙ ap (λ (o : ℕ). done.Surveyed coll (count_of t.moment.scene.state.world coll) o) blocks)
+    (t.tells ∙ ap (λ (o : ℕ). done.Surveyed coll (count_of t.moment.scene.state.world coll) o) blocks)

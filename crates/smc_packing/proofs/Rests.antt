@@ -1,5 +1,5 @@
 -- While a pass works alone and is in no call, a collection is at rest, and after it has waited each unused slot may be claimed.
-use Rattle.std.proofs.Common.{◌≡◌, ◌≢◌, ℕ, ◌+◌, ◌<◌, ◌≤◌, Bool, true, false, Option, Some, None, refl, sym, ap, ◌∙◌, subst, arith}
+use Rattle.std.proofs.Common.{◌≡◌, ℕ, ◌+◌, ◌<◌, ◌≤◌, true, false, Option, Some, None, refl, sym, ap, ◌∙◌, subst, arith}
 use Rattle.std.proofs.lemmas.Bool.Decides.{nat_tests}
 use Rattle.smc_words.specs.declared.dir.Dir.{Dir}
 use Rattle.smc_words.specs.declared.dir.Dir.TheVariants as dir
@@ -8,7 +8,6 @@ use Rattle.smc_shape.specs.Layout.{Layout, slots_of}
 use Rattle.smc_shape.specs.declared.place.Place.TheVariants as place
 use Rattle.smc_model.specs.World.{World}
 use Rattle.smc_core.specs.declared.local.Opening.{Opening}
-use Rattle.smc_core.specs.declared.local.Owned.{Owned}
 use Rattle.smc_core.specs.declared.phase.Phase.{Phase}
 use Rattle.smc_core.specs.declared.phase.Phase.TheVariants as phase
 use Rattle.smc_core.specs.declared.word.State as E
@@ -27,7 +26,7 @@ use Rattle.smc_inv_use.proofs.RestLaws.{only_present, present_in_valid, slot_at_
 use Rattle.smc_inv_use.proofs.Used.{Used}
 use Rattle.smc_aside.specs.Aside.{IsResting}
 use Rattle.smc_census.specs.Census.{is_home, homes}
-use Rattle.smc_census.proofs.HomeCounts.{slot-home, home-owner, HasOwner}
+use Rattle.smc_census.proofs.HomeCounts.{slot-home, home-owner}
 use Rattle.smc_packing.proofs.CountSteps.{HomesAreValid}
 use Rattle.smc_packing.proofs.Finishes.{AreLow}
 use Rattle.smc_packing.proofs.Known.{Known}

@@ -1,19 +1,15 @@
 -- As many slots are left for targets as sources have still to be moved, and each of them is ripe.
-use Rattle.std.proofs.Common.{◌≡◌, ◌≢◌, ℕ, ◌+◌, ◌*◌, ◌<◌, ◌≤◌, ◌==◌, ◌&&◌, Bool, true, false, not, refl, sym, ap, ◌∙◌, subst, arith}
-use Rattle.std.specs.Prelude.{if◌then◌else◌}
+use Rattle.std.proofs.Common.{◌≡◌, ◌≢◌, ℕ, ◌+◌, ◌<◌, ◌≤◌, Bool, true, false, not, sym, ap, ◌∙◌, subst, arith}
 use Rattle.std.proofs.lemmas.Bool.Decides.{nat_tests}
-use Rattle.smc_words.specs.declared.dir.Dir.TheVariants as dir
 use Rattle.smc_shape.specs.declared.place.Place.TheVariants as place
 use Rattle.smc_core.specs.declared.word.State.TheVariants as state
 use Rattle.smc_core.specs.declared.word.Word.{Word}
-use Rattle.smc_core.specs.declared.word.Word.TheVariants as word
 use Rattle.smc_core.specs.Count.{is_valid}
 use Rattle.smc_core.specs.Ripe.{is_ripe_slot}
-use Rattle.smc_core.specs.Words.{dir_of}
 use Rattle.smc_rules.specs.Memory.{Memory, put_word}
 use Rattle.smc_rules.specs.Reads.{state_in, dir_in}
 use Rattle.smc_census.specs.Counts.{count_between}
-use Rattle.smc_census.proofs.CountLaws.{count_below-mono, count_below-step, count_between-first, count_between-not_first, count_between-order, count_between-same}
+use Rattle.smc_census.proofs.CountLaws.{count_below-mono, count_between-first, count_between-not_first, count_between-order, count_between-same}
 
 -- whether the slot's directory word says valid
 abbrev pub is_valid_in : Memory → ℕ → ℕ → Bool

@@ -1,6 +1,6 @@
 -- What holds of a call that a pass makes undisturbed, from its first step to its answer.
-use Rattle.std.proofs.Common.{◌≡◌, ◌≢◌, ℕ, zero, suc, ◌<◌, ◌==◌, Bool, true, false, cond, Option, Some, None, List, [], ◌∷◌, ◌++◌, length, append-nil, refl, sym, ap, ◌∙◌, subst, inl, inr, arith}
-use Rattle.std.specs.Prelude.{◌⊎◌, IfSome, IsTrue, replicate, slice_get}
+use Rattle.std.proofs.Common.{◌≡◌, ◌≢◌, ℕ, zero, suc, ◌<◌, Bool, cond, Option, Some, None, List, [], ◌∷◌, ◌++◌, length, append-nil, refl, sym, ap, ◌∙◌, subst, inl, inr}
+use Rattle.std.specs.Prelude.{IfSome, replicate}
 use Rattle.std.specs.Option.{option_map_or}
 use Rattle.std.proofs.lemmas.Bool.{eq-eqb, ne_eqb}
 use Rattle.std.proofs.lemmas.List.{append_cancel_left}
@@ -54,8 +54,8 @@ IsStable P = (memory : Memory) (op : Op) (world : World) (section : Section) (ow
 abbrev pub HoldsAfter : Saying → Layout → ℕ → S.State → Section → Option Owned → Phase → Choice → Type 0
 HoldsAfter P shape pass s section owned next choice = IfSome (offer shape pass (s.stands pass) section next choice) (λ o. (told : ℕ)
     → P (apply o.op s.memory) (world_told s.world (change shape pass (s.stands pass) section next choice told (seen o.op s.memory)).event)
-        (section_after section next choice (seen o.op s.memory)) (round_after owned section next choice (seen o.op s.memory))
-        (change shape pass (s.stands pass) section next choice told (seen o.op s.memory)).phase (change shape pass (s.stands pass) section next choice told (seen o.op s.memory)).answer)
+    (section_after section next choice (seen o.op s.memory)) (round_after owned section next choice (seen o.op s.memory))
+    (change shape pass (s.stands pass) section next choice told (seen o.op s.memory)).phase (change shape pass (s.stands pass) section next choice told (seen o.op s.memory)).answer)
 
 -- each step of the pass keeps it, from where the call has not ended
 abbrev pub IsKeptBy : Saying → Opening → Layout → ℕ → Choice → Type 0
@@ -106,7 +106,7 @@ module _ (P : Saying) (opening : Opening) (shape : Layout) (valid : IsShape shap
       let w : Word = seen f.offered.op s.memory in
       let quiet : IsQuietStep f.offered.op (stand_change shape by (s.stands by) choice f.told w).event =
       subst (λ (k : Option Offer). IfSome k (λ o. (w : Word) → IsQuietStep o.op (stand_change shape by (s.stands by) choice f.told w).event)) f.offers
-          (quiet_step shape by (s.stands by) f.told (s.stands by).section (s.stands by).phase choice stands.outside stands.resting may) w in
+      (quiet_step shape by (s.stands by) f.told (s.stands by).section (s.stands by).phase choice stands.outside stands.resting may) w in
       let place : s.stands pass ≡ put_stand s.stands by (stand_then shape by (s.stands by) choice f.told w) pass =
       sym (put_stand-other s.stands by pass (stand_then shape by (s.stands by) choice f.told w) (λ e. apart (sym e))) in
       let memory : P (apply f.offered.op s.memory) s.world (s.stands pass).section (s.stands pass).round (s.stands pass).phase d =
@@ -127,16 +127,17 @@ module _ (P : Saying) (opening : Opening) (shape : Layout) (valid : IsShape shap
       let stand : Stand = stand_then shape pass (s.stands pass) choice f.told w in
       let holds : P (apply f.offered.op s.memory) (world_told s.world (stand_change shape pass (s.stands pass) choice f.told w).event) stand.section stand.round stand.phase (stand_change shape pass (s.stands pass) choice f.told w).answer =
       subst (λ (k : Option Offer). IfSome k (λ o. (told : ℕ)
-          → P (apply o.op s.memory) (world_told s.world (stand_change shape pass (s.stands pass) choice told (seen o.op s.memory)).event)
-              (section_after (s.stands pass).section (s.stands pass).phase choice (seen o.op s.memory)) (round_after (s.stands pass).round (s.stands pass).section (s.stands pass).phase choice (seen o.op s.memory))
-              (stand_change shape pass (s.stands pass) choice told (seen o.op s.memory)).phase (stand_change shape pass (s.stands pass) choice told (seen o.op s.memory)).answer)) f.offers
-          (keeps s said.scene.rule.all (aside-in opening shape m said.scene pass aside) f.within (s.stands pass).section (s.stands pass).round (s.stands pass).phase refl refl refl said.says) f.told in
+      → P (apply o.op s.memory) (world_told s.world (stand_change shape pass (s.stands pass) choice told (seen o.op s.memory)).event)
+      (section_after (s.stands pass).section (s.stands pass).phase choice (seen o.op s.memory)) (round_after (s.stands pass).round (s.stands pass).section (s.stands pass).phase choice (seen o.op s.memory))
+      (stand_change shape pass (s.stands pass) choice told (seen o.op s.memory)).phase (stand_change shape pass (s.stands pass) choice told (seen o.op s.memory)).answer)) f.offers
+      (keeps s said.scene.rule.all (aside-in opening shape m said.scene pass aside) f.within (s.stands pass).section (s.stands pass).round (s.stands pass).phase refl refl refl said.says) f.told in
       let place : stand ≡ put_stand s.stands pass stand pass = sym (put_stand-same s.stands pass pass stand refl) in
       let all : Says P pass (state_after shape s pass choice f.told f.offered.op w) (stand_change shape pass (s.stands pass) choice f.told w).answer =
-      subst (λ (k : Stand). P (apply f.offered.op s.memory) (world_told s.world (stand_change shape pass (s.stands pass) choice f.told w).event) k.section k.round k.phase (stand_change shape pass (s.stands pass) choice f.told w).answer) place holds in
-      ((stand_change shape pass (s.stands pass) choice f.told w).answer,
-      record { scene = f.then; says = subst (λ (z : S.State). Says P pass z (stand_change shape pass (s.stands pass) choice f.told w).answer) (sym f.is) all },
-      kept-more (answers_of pass m.locals) (answers_of pass next.locals) f.at (stand_change shape pass (s.stands pass) choice f.told w).answer f.own)
+      subst (λ (k : Stand). P (apply f.offered.op s.memory) (world_told s.world (stand_change shape pass (s.stands pass) choice f.told w).event) k.section k.round k.phase (stand_change shape pass (s.stands pass) choice f.told w).answer) place holds in (
+        (stand_change shape pass (s.stands pass) choice f.told w).answer,
+        record { scene = f.then; says = subst (λ (z : S.State). Says P pass z (stand_change shape pass (s.stands pass) choice f.told w).answer) (sym f.is) all },
+        kept-more (answers_of pass m.locals) (answers_of pass next.locals) f.at (stand_change shape pass (s.stands pass) choice f.told w).answer f.own,
+      )
 
   -- a call that has ended does not go on
   no-more : (m : Machine) (next : Machine) (answer : Done) → Said m (Some answer) → Steps shape m pass Go next → ⊥
@@ -171,7 +172,7 @@ module _ (P : Saying) (opening : Opening) (shape : Layout) (valid : IsShape shap
             let may : IsAsideChoice step.1 = elim calm.0 [ inl own ↦ absurd (apart own) | inr may ↦ may ] in
             let past : Said next d × (answers_of pass next.locals ≡ answers_of pass m.locals) = past-other m step.0 step.1 next d said taken apart may aside in
             on d past.0 (subst (HasKept base d) (sym past.1) has) more
-                (sym (ap (λ (b : Bool). cond b (step.1 ∷ own_choices pass later) (own_choices pass later)) (ne_eqb step.0 pass apart)) ∙ todo)
+            (sym (ap (λ (b : Bool). cond b (step.1 ∷ own_choices pass later) (own_choices pass later)) (ne_eqb step.0 pass apart)) ∙ todo)
 
         own : Along next later → step.0 ≡ pass → Said last (Some answer)
         own on is = go d said has
@@ -198,7 +199,7 @@ module _ (P : Saying) (opening : Opening) (shape : Layout) (valid : IsShape shap
     before m (step ∷ later) (next, taken, leads) aside calm said has more todo =
         let stays : OthersAside pass next.locals = others-aside shape pass m next (step ∷ []) aside (calm.0, tt) (next, taken, refl) in
         by_pass step.0 pass (own (λ d said has more todo. during next later leads stays calm.1 d said has more todo))
-            (other (λ said has todo. before next later leads stays calm.1 said has more todo))
+        (other (λ said has todo. before next later leads stays calm.1 said has more todo))
       where
         other : (Said next None → answers_of pass next.locals ≡ base → own_choices pass later ≡ Start call ∷ replicate more Go → Said last (Some answer)) → step.0 ≢ pass → Said last (Some answer)
         other on apart =

@@ -1,5 +1,5 @@
 -- A state behind each machine of a list of steps, and what a step makes of it.
-use Rattle.std.proofs.Common.{◌≡◌, ◌≢◌, ℕ, zero, suc, ◌<◌, Option, Some, None, List, [], ◌∷◌, length, refl, sym, ap, ◌∙◌, subst, inl, inr, arith}
+use Rattle.std.proofs.Common.{◌≡◌, ◌≢◌, ℕ, ◌<◌, Option, Some, List, [], length, refl, sym, ap, ◌∙◌, subst, inl, inr, arith}
 use Rattle.std.specs.Prelude.{slice_get, slice_set}
 use Rattle.std.specs.Option.{option_map_or}
 use Rattle.std.proofs.lemmas.Option.{slice_get_within, slice_get_cases}
@@ -12,7 +12,7 @@ use Rattle.smc_core.specs.declared.local.Stand.{Stand}
 use Rattle.smc_core.specs.declared.op.Offer.{Offer}
 use Rattle.smc_core.specs.declared.op.Op.{Op}
 use Rattle.smc_core.specs.declared.word.Word.{Word}
-use Rattle.smc_core.specs.Local.{after, answered, logged}
+use Rattle.smc_core.specs.Local.{after, answered}
 use Rattle.smc_core.specs.Machine.{Machine, Steps, stepped}
 use Rattle.smc_core.specs.Row.{row_shows}
 use Rattle.smc_rules.specs.Memory.{seen}

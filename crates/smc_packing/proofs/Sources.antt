@@ -1,6 +1,5 @@
 -- A begin counts what is there, and passes no source that still has an object without a mark.
-use Rattle.std.proofs.Common.{◌≡◌, ◌≢◌, ℕ, ◌+◌, ◌*◌, ◌%◌, ◌<◌, ◌≤◌, ◌==◌, ◌&&◌, Bool, true, false, Option, Some, None, refl, sym, ap, ◌∙◌, subst, arith}
-use Rattle.std.specs.Prelude.{nat_lt, IfSome, length, if◌then◌else◌}
+use Rattle.std.proofs.Common.{◌≡◌, ℕ, ◌+◌, ◌%◌, ◌<◌, ◌≤◌, true, false, Option, Some, None, refl, sym, ap, ◌∙◌, subst, arith}
 use Rattle.std.specs.Option.{option_map_or}
 use Rattle.std.proofs.lemmas.Bool.{cond_both}
 use Rattle.std.proofs.lemmas.Bool.Decides.{nat_tests}
@@ -28,25 +27,24 @@ use Rattle.smc_core.specs.declared.word.State.TheVariants as state
 use Rattle.smc_core.specs.declared.word.Word.{Word}
 use Rattle.smc_core.specs.declared.word.Word.TheVariants as word
 use Rattle.smc_core.specs.Begin.{begin_change, begin_counting, is_source, next_source, source_owner, to_target}
-use Rattle.smc_core.specs.Count.{count_next, count_owner, is_valid, with_object}
+use Rattle.smc_core.specs.Count.{is_valid}
 use Rattle.smc_core.specs.Section.{epoch_of}
 use Rattle.smc_core.specs.Step.{goes}
-use Rattle.smc_core.specs.Words.{dir_of, back_of, state_of, has_object, has_object_at}
-use Rattle.smc_rules.specs.Memory.{Memory}
+use Rattle.smc_core.specs.Words.{state_of, has_object}
 use Rattle.smc_rules.specs.Reads.{state_in, dir_in, back_in, object}
 use Rattle.smc_rules.specs.State as S
 use Rattle.smc_rules.proofs.CarryLaws.{some-same}
 use Rattle.smc_agreement.specs.Entries.{stands_at, present_at, IsPlaced}
-use Rattle.smc_agreement.proofs.CrossLaws.{back_home, below}
+use Rattle.smc_agreement.proofs.CrossLaws.{back_home}
 use Rattle.smc_agreement.proofs.Whole.{shut}
 use Rattle.smc_laws.proofs.Everything.{Everything}
-use Rattle.smc_census.specs.Census.{is_home, owner_is_at}
-use Rattle.smc_census.proofs.CountLaws.{by_test, by_order}
+use Rattle.smc_census.specs.Census.{is_home}
+use Rattle.smc_census.proofs.CountLaws.{by_order}
 use Rattle.smc_census.proofs.HomeCounts.{present-slot}
-use Rattle.smc_census.proofs.WalkLaws.{CountsBelow, counts-pass, counts-object}
+use Rattle.smc_census.proofs.WalkLaws.{CountsBelow}
 use Rattle.smc_packing.proofs.CountSteps.{steps-directory, steps-back, steps-entry}
-use Rattle.smc_packing.proofs.Rooms.{is_valid_in, HasRoom, room-source, ArePassed, passed-next}
-use Rattle.smc_packing.proofs.Walks.{IsRested, IsCounting, IsWalking, IsInHand, HasRoomFor, Beginning, BeginPart, to-source, to-target, after-count}
+use Rattle.smc_packing.proofs.Rooms.{is_valid_in, room-source, passed-next}
+use Rattle.smc_packing.proofs.Walks.{IsCounting, IsWalking, HasRoomFor, Beginning, to-source, to-target, after-count}
 use Rattle.smc_packing.proofs.Waiting.{AfterChange}
 
 -- an entry that is a source's says so
@@ -82,11 +80,11 @@ module _ (opening : Opening) (shape : Layout) (coll epoch many : ℕ) (w0 : Worl
   present-inside c a f slot is = by_order f (entries_of shape c)
       (λ lt. (present-slot opening shape s e (object a f c) slot lt (grind (arith, nat_tests, is))).0)
       (λ past. absurd (
-        let none = e.records.no_others c a f past in
-        let here : has_object a (state_in s.memory c f) ≡ true = grind (arith, nat_tests, is) in
-        let there = e.records.is_here c a f in
-        let not_here : is_present s.world (object a f c) ≡ false = ap (λ (x : Option Object). option_map_or (λ (o : Object). o.present) x false) none in
-        cc))
+      let none = e.records.no_others c a f past in
+      let here : has_object a (state_in s.memory c f) ≡ true = grind (arith, nat_tests, is) in
+      let there = e.records.is_here c a f in
+      let not_here : is_present s.world (object a f c) ≡ false = ap (λ (x : Option Object). option_map_or (λ (o : Object). o.present) x false) none in
+      cc))
 
   incoming-inside : (slot : ℕ) → dir_in s.memory coll slot ≡ dir.Incoming → slot < slots_of shape coll
   incoming-inside slot is = e.whole.agrees.moves.incoming_in coll slot is
@@ -132,9 +130,9 @@ module _ (opening : Opening) (shape : Layout) (coll epoch many : ℕ) (w0 : Worl
         (AfterChange (Beginning shape coll epoch many w0) s.memory w0 section owned)
         (λ t. record { in_world = refl; at_epoch = at_epoch; part = (k, room, t) })
         (λ n. past-source moves k room (λ a f is.
-            let placed : IsPlaced (dir_in s.memory moves.coll moves.source) = e.whole.agrees.objects.placed moves.coll a f moves.source (ap present_at is) in
-            let incoming : dir_in s.memory moves.coll moves.source ≡ dir.Incoming = placed-incoming (dir_in s.memory moves.coll moves.source) placed n in
-            let low : moves.source < moves.kept = k.low moves.source incoming in omega (arith, low, high)))
+        let placed : IsPlaced (dir_in s.memory moves.coll moves.source) = e.whole.agrees.objects.placed moves.coll a f moves.source (ap present_at is) in
+        let incoming : dir_in s.memory moves.coll moves.source ≡ dir.Incoming = placed-incoming (dir_in s.memory moves.coll moves.source) placed n in
+        let low : moves.source < moves.kept = k.low moves.source incoming in omega (arith, low, high)))
 
     -- which names it
     pub source-back : moves.source < slots_of shape moves.coll → is_valid_in s.memory moves.coll moves.source ≡ true → After (begin.SourceBack moves) (s.memory (place.Back moves.coll moves.source))
@@ -154,10 +152,10 @@ module _ (opening : Opening) (shape : Layout) (coll epoch many : ℕ) (w0 : Worl
     source-entry number lt valid back home = cond_both (is_source number moves.source (state_in s.memory number.coll number.entry)) (to_target epoch moves number) (next_source shape epoch moves)
         (AfterChange (Beginning shape coll epoch many w0) s.memory w0 section owned)
         (λ t. to-target shape coll epoch many w0 s.memory section owned moves number at_epoch k
-            (record { valid = valid; back = back; home = home; here = source-word (s.memory (place.Entry number.coll number.entry)) number moves.source t }) lt room)
+        (record { valid = valid; back = back; home = home; here = source-word (s.memory (place.Entry number.coll number.entry)) number moves.source t }) lt room)
         (λ n. past-source moves k room (λ a f here.
-            let named : back_in s.memory moves.coll moves.source ≡ Some (object a f moves.coll) = e.whole.agrees.objects.standing moves.coll a f moves.source (ap stands_at here) in
-            let same : number ≡ object a f moves.coll = some-same number (object a f moves.coll) (sym back ∙ named) in
-            let no : is_source (object a f moves.coll) moves.source (state_in s.memory moves.coll f) ≡ false = subst (λ (x : Number). is_source x moves.source (state_in s.memory x.coll x.entry) ≡ false) same n in
-            let no' : is_source (object a f moves.coll) moves.source (state.Present a moves.source) ≡ false = subst (λ (x : E.State). is_source (object a f moves.coll) moves.source x ≡ false) here no in
-            absurd (grind (arith, nat_tests, no'))))
+        let named : back_in s.memory moves.coll moves.source ≡ Some (object a f moves.coll) = e.whole.agrees.objects.standing moves.coll a f moves.source (ap stands_at here) in
+        let same : number ≡ object a f moves.coll = some-same number (object a f moves.coll) (sym back ∙ named) in
+        let no : is_source (object a f moves.coll) moves.source (state_in s.memory moves.coll f) ≡ false = subst (λ (x : Number). is_source x moves.source (state_in s.memory x.coll x.entry) ≡ false) same n in
+        let no' : is_source (object a f moves.coll) moves.source (state.Present a moves.source) ≡ false = subst (λ (x : E.State). is_source (object a f moves.coll) moves.source x ≡ false) here no in
+        absurd (grind (arith, nat_tests, no'))))

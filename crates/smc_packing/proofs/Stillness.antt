@@ -1,8 +1,7 @@
 -- While a pass works alone, a step of another one is a load, or moves the epoch on.
-use Rattle.std.proofs.Common.{◌≡◌, ◌≢◌, ℕ, ◌+◌, ◌<◌, ◌≤◌, ◌==◌, Bool, true, false, Option, Some, None, List, refl, sym, ap, ◌∙◌, subst, arith}
-use Rattle.std.specs.Prelude.{◌||◌, IfSome, IsTrue, nat_lt, slice_get, if◌then◌else◌}
+use Rattle.std.proofs.Common.{◌≡◌, ℕ, ◌+◌, ◌≤◌, ◌==◌, Bool, true, false, Option, None, refl, ap, ◌∙◌, arith}
+use Rattle.std.specs.Prelude.{◌||◌, IfSome, IsTrue, if◌then◌else◌}
 use Rattle.std.proofs.lemmas.Bool.{cond_both}
-use Rattle.std.proofs.lemmas.Option.{slice_get_past}
 use Rattle.smc_shape.specs.Layout.{Layout}
 use Rattle.smc_shape.specs.declared.place.Place.{Place}
 use Rattle.smc_shape.specs.declared.place.Place.TheVariants as place
@@ -10,10 +9,9 @@ use Rattle.smc_model.specs.declared.event.Event.{Event}
 use Rattle.smc_core.specs.declared.call.Call.TheVariants as call
 use Rattle.smc_core.specs.declared.call.Choice.{Choice}
 use Rattle.smc_core.specs.declared.call.Choice.TheVariants.{Start, Go}
-use Rattle.smc_core.specs.declared.change.Change.{Change}
 use Rattle.smc_core.specs.declared.done.Done.TheVariants as done
 use Rattle.smc_core.specs.declared.op.Op.{Op}
-use Rattle.smc_core.specs.declared.op.Op.TheVariants.{Load, Store, Exchange, MarkGone}
+use Rattle.smc_core.specs.declared.op.Op.TheVariants.{Load, Exchange}
 use Rattle.smc_core.specs.declared.local.Stand.{Stand}
 use Rattle.smc_core.specs.declared.phase.Phase.{Phase}
 use Rattle.smc_core.specs.declared.phase.Phase.TheVariants as phase
@@ -99,9 +97,9 @@ module _ (shape : Layout) (other : ℕ) (stand : Stand) (told : ℕ) where
   ]
   quiet_step section phase.Idle (Start call.Advance) out rest may = elim section as (λ x. IfSome (offer shape other stand x phase.Idle (Start call.Advance)) (λ o. (w : Word) → IsQuietStep o.op (change shape other stand x phase.Idle (Start call.Advance) told w).event)) [
     | Outside ↦ λ w. record {
-        quiet = tt;
-        silent = cond_both (plain_of w == LAST_EPOCH) (ends done.Spent) (goes (advance_next shape (plain_of w) 0)) (λ c. c.event ≡ None) (λ t. refl) (λ n. refl);
-      }
+      quiet = tt;
+      silent = cond_both (plain_of w == LAST_EPOCH) (ends done.Spent) (goes (advance_next shape (plain_of w) 0)) (λ c. c.event ≡ None) (λ t. refl) (λ n. refl);
+    }
     | _ ↦ tt
   ]
   quiet_step section (phase.Advancing from next) (Start c) out rest may = tt

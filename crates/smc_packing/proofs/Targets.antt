@@ -1,5 +1,5 @@
 -- Each source that a begin has in hand gets a target, and its object is frozen.
-use Rattle.std.proofs.Common.{◌≡◌, ◌≢◌, ℕ, ◌+◌, ◌<◌, ◌≤◌, ◌==◌, ◌&&◌, Bool, true, false, Option, Some, None, refl, sym, ap, ◌∙◌, subst, arith}
+use Rattle.std.proofs.Common.{◌≡◌, ◌≢◌, ℕ, ◌+◌, ◌<◌, ◌≤◌, Bool, true, false, Option, Some, None, refl, sym, ap, ◌∙◌, subst, arith}
 use Rattle.std.specs.Prelude.{nat_lt, if◌then◌else◌}
 use Rattle.std.proofs.lemmas.Bool.{cond_both}
 use Rattle.std.proofs.lemmas.Bool.Decides.{nat_tests}
@@ -13,7 +13,6 @@ use Rattle.smc_model.specs.World.{World}
 use Rattle.smc_core.specs.declared.change.Change.{Change}
 use Rattle.smc_core.specs.declared.local.Opening.{Opening}
 use Rattle.smc_core.specs.declared.local.Owned.{Owned}
-use Rattle.smc_core.specs.declared.op.Op.{Op}
 use Rattle.smc_core.specs.declared.phase.Phase.TheVariants as phase
 use Rattle.smc_core.specs.declared.phase.moves.BeginPhase.{BeginPhase}
 use Rattle.smc_core.specs.declared.phase.moves.BeginPhase.TheVariants as begin
@@ -27,7 +26,7 @@ use Rattle.smc_core.specs.Count.{is_valid}
 use Rattle.smc_core.specs.Ripe.{is_ripe_slot}
 use Rattle.smc_core.specs.Section.{epoch_of}
 use Rattle.smc_core.specs.Step.{goes}
-use Rattle.smc_core.specs.Words.{dir_of, back_of, state_of, same_word}
+use Rattle.smc_core.specs.Words.{dir_of, state_of, same_word}
 use Rattle.smc_rules.specs.Memory.{Memory, apply, put_word, seen}
 use Rattle.smc_rules.specs.Reads.{state_in, dir_in, back_in, object}
 use Rattle.smc_rules.specs.State as S
@@ -37,7 +36,7 @@ use Rattle.smc_rules.proofs.PlaceLaws.{same_place-refl}
 use Rattle.smc_agreement.specs.Entries.{stands_at}
 use Rattle.smc_laws.proofs.Everything.{Everything}
 use Rattle.smc_census.proofs.CountLaws.{by_test}
-use Rattle.smc_packing.proofs.Rooms.{is_valid_in, HasRoom, dir-other, room-both, room-put, room-target, passed-next}
+use Rattle.smc_packing.proofs.Rooms.{is_valid_in, dir-other, room-both, room-put, room-target, passed-next}
 use Rattle.smc_packing.proofs.Walks.{IsWalking, IsInHand, IsFilling, HasRoomFor, Beginning, BeginPart, to-source, to-target}
 use Rattle.smc_packing.proofs.Waiting.{AfterChange}
 
@@ -81,11 +80,11 @@ module _ (opening : Opening) (shape : Layout) (coll epoch many : ℕ) (w0 : Worl
       (AfterThat s.memory)
       (λ t. record { in_world = refl; at_epoch = at_epoch; part = (k, hand, room, ripe-word epoch (s.memory (place.Directory moves.coll moves.target)) t, t) })
       (λ n. by_test (is_valid_in s.memory moves.coll moves.target)
-          (λ valid. to-target shape coll epoch many w0 s.memory section owned (past_target moves) number at_epoch
-              (record { of_it = k.of_it; to = k.to; passed = k.passed; low = k.low; inside = k.inside })
-              (record { valid = hand.valid; back = hand.back; home = hand.home; here = hand.here }) lt
-              (room-target epoch s.memory moves.coll moves.kept (slots_of shape moves.coll) moves.source moves.target valid room))
-          (λ other. absurd (let ripe = room.ripe moves.target (omega arith) below other in cc)))
+      (λ valid. to-target shape coll epoch many w0 s.memory section owned (past_target moves) number at_epoch
+      (record { of_it = k.of_it; to = k.to; passed = k.passed; low = k.low; inside = k.inside })
+      (record { valid = hand.valid; back = hand.back; home = hand.home; here = hand.here }) lt
+      (room-target epoch s.memory moves.coll moves.kept (slots_of shape moves.coll) moves.source moves.target valid room))
+      (λ other. absurd (let ripe = room.ripe moves.target (omega arith) below other in cc)))
 
   -- what has been stored in the target's directory word leaves the rest
   walking-put : (w : Word) → (dir_of w ≡ dir.Incoming → moves.target < moves.kept) → IsWalking shape coll epoch many w0 (put_word s.memory (place.Directory moves.coll moves.target) w) moves

@@ -1,11 +1,10 @@
 -- Advances, and how a section begins and ends: nothing changes but the epoch and section words, and the epoch rises as answers say.
-use Rattle.std.proofs.Common.{◌≡◌, ◌≢◌, ℕ, ◌+◌, ◌<◌, ◌≤◌, ◌==◌, Bool, true, false, Option, Some, None, List, [], ◌∷◌, refl, sym, ap, ◌∙◌, subst, arith}
-use Rattle.std.specs.Prelude.{◌||◌, IfSome, IsTrue, nat_lt, slice_get, if◌then◌else◌}
-use Rattle.std.proofs.lemmas.Bool.{cond_both, eqb-true, eqb-false}
-use Rattle.smc_shape.specs.Layout.{Layout, IsShape}
+use Rattle.std.proofs.Common.{◌≡◌, ◌≢◌, ℕ, ◌+◌, ◌≤◌, ◌==◌, Bool, true, Option, Some, None, refl, ap, ◌∙◌, subst, arith}
+use Rattle.std.specs.Prelude.{◌||◌, IfSome, IsTrue, nat_lt, if◌then◌else◌}
+use Rattle.std.proofs.lemmas.Bool.{cond_both, eqb-false}
+use Rattle.smc_shape.specs.Layout.{Layout}
 use Rattle.smc_shape.specs.declared.place.Place.{Place}
 use Rattle.smc_shape.specs.declared.place.Place.TheVariants as place
-use Rattle.smc_model.specs.declared.event.Event.TheVariants as event
 use Rattle.smc_model.specs.World.{World}
 use Rattle.smc_core.specs.declared.call.Call.TheVariants as call
 use Rattle.smc_core.specs.declared.call.Choice.TheVariants.{Start, Go}
@@ -23,19 +22,17 @@ use Rattle.smc_core.specs.declared.section.Section.TheVariants.{Outside, Loaded,
 use Rattle.smc_core.specs.declared.section.TheConstants.{LAST_EPOCH}
 use Rattle.smc_core.specs.declared.word.Word.{Word}
 use Rattle.smc_core.specs.declared.word.Word.TheVariants as word
-use Rattle.smc_core.specs.Change.{change, advance_next}
+use Rattle.smc_core.specs.Change.{advance_next}
 use Rattle.smc_core.specs.Section.{epoch_of}
-use Rattle.smc_core.specs.Step.{goes, ends, tells}
+use Rattle.smc_core.specs.Step.{goes, ends}
 use Rattle.smc_core.specs.Words.{plain_of, same_word}
 use Rattle.smc_rules.specs.Memory.{Memory, apply, put_word}
 use Rattle.smc_rules.specs.Reads.{epoch_of_region}
-use Rattle.smc_rules.specs.State as S
 use Rattle.smc_rules.specs.State.{world_told}
 use Rattle.smc_rules.specs.EpochRule.{advance_from}
 use Rattle.smc_inv_range.specs.Ranges.{InWord}
-use Rattle.smc_laws.proofs.Everything.{Everything}
 use Rattle.smc_packing.specs.Drive.{names}
-use Rattle.smc_packing.proofs.Runs.{Saying, IsStable, IsKeptBy, HoldsAfter, Carries}
+use Rattle.smc_packing.proofs.Runs.{Saying, IsStable, IsKeptBy, Carries}
 use Rattle.smc_packing.proofs.Stillness.{Still, IsQuiet, is_still, quiet-still, quiet-epoch}
 
 -- nothing has changed since but the epoch, which has not fallen, and section words
@@ -143,7 +140,7 @@ module _ (m0 : Memory) (w0 : World) (r0 : Option Owned) where
     advance-starts : IsKeptBy Advancing opening shape pass (Start call.Advance)
     advance-starts s e aside within Outside owned phase.Idle at_sec at_round at_call p = λ told.
         cond_both (plain_of (s.memory place.Epoch) == LAST_EPOCH) (ends done.Spent) (goes (advance_next shape (plain_of (s.memory place.Epoch)) 0)) (AfterChange Advancing s.memory s.world Outside owned)
-            (λ t. record { same = p.same; part = tt }) (λ n. onward s.memory s.world owned (plain_of (s.memory place.Epoch)) 0 p.same p.same.epoch)
+        (λ t. record { same = p.same; part = tt }) (λ n. onward s.memory s.world owned (plain_of (s.memory place.Epoch)) 0 p.same p.same.epoch)
     advance-starts s e aside within section owned phase.Idle at_sec at_round at_call p = tt
     advance-starts s e aside within section owned next at_sec at_round at_call p = tt
 
@@ -151,7 +148,7 @@ module _ (m0 : Memory) (w0 : World) (r0 : Option Owned) where
     advance-goes s e aside within section owned phase.Idle at_sec at_round at_call p = tt
     advance-goes s e aside within Outside owned (phase.Advancing from other) at_sec at_round at_call p = λ told.
         cond_both (plain_of (s.memory (place.Section other)) == 0 || plain_of (s.memory (place.Section other)) == from) (goes (advance_next shape from (other + 1))) (ends (done.NotYet other (plain_of (s.memory (place.Section other))))) (AfterChange Advancing s.memory s.world Outside owned)
-            (λ t. onward s.memory s.world owned from (other + 1) p.same p.part) (λ n. record { same = p.same; part = tt })
+        (λ t. onward s.memory s.world owned from (other + 1) p.same p.part) (λ n. record { same = p.same; part = tt })
     advance-goes s e aside within Outside owned (phase.Ready from) at_sec at_round at_call p = λ told.
         let op : Op = Exchange place.Epoch (word.Plain from) (word.Plain (from + 1)) in
         let seen : ℕ = epoch_of_region s.memory in
@@ -159,9 +156,9 @@ module _ (m0 : Memory) (w0 : World) (r0 : Option Owned) where
         let within : from ≤ seen = e.whole.rounds.epochs.rule.advance pass from within (ap advance_from at_call) in
         let later : seen ≤ epoch_of_region (apply op s.memory) = quiet-epoch s.memory op (omega arith) in
         cond_both (seen == from) (ends (done.Advanced (from + 1))) (ends (done.Overtaken seen)) (AfterChange Advancing (apply op s.memory) s.world Outside owned)
-            (λ t. let moved : epoch_of_region (apply op s.memory) ≡ from + 1 = moves-on (s.memory place.Epoch) from (epoch-word shape (s.memory place.Epoch) (e.whole.ranges.memory place.Epoch tt)) t in
-            record { same = same; part = (omega (arith, p.part), omega (arith, moved)) })
-            (λ n. let apart : seen ≢ from = eqb-false seen from n in record { same = same; part = (omega (arith, p.part), later) })
+        (λ t. let moved : epoch_of_region (apply op s.memory) ≡ from + 1 = moves-on (s.memory place.Epoch) from (epoch-word shape (s.memory place.Epoch) (e.whole.ranges.memory place.Epoch tt)) t in
+        record { same = same; part = (omega (arith, p.part), omega (arith, moved)) })
+        (λ n. let apart : seen ≢ from = eqb-false seen from n in record { same = same; part = (omega (arith, p.part), later) })
     advance-goes s e aside within section owned next at_sec at_round at_call p = absurd p.part
 
     pub advance-carries : Carries Advancing opening shape pass call.Advance

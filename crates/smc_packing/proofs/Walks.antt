@@ -1,6 +1,6 @@
 -- What a begin has done once it has come so far, where nothing but its own steps changes slots and entries.
-use Rattle.std.proofs.Common.{◌≡◌, ◌≢◌, ℕ, ◌+◌, ◌*◌, ◌/◌, ◌%◌, ◌<◌, ◌≤◌, Bool, true, false, Option, Some, None, refl, sym, ap, ◌∙◌, subst, arith}
-use Rattle.std.specs.Prelude.{nat_lt, nat_le, if◌then◌else◌}
+use Rattle.std.proofs.Common.{◌≡◌, ℕ, ◌+◌, ◌*◌, ◌/◌, ◌%◌, ◌<◌, ◌≤◌, true, false, Option, Some, None, refl, ap, ◌∙◌, subst, arith}
+use Rattle.std.specs.Prelude.{nat_lt, nat_le}
 use Rattle.std.proofs.lemmas.Bool.{cond_both}
 use Rattle.std.proofs.lemmas.Bool.Decides.{nat_tests}
 use Rattle.smc_words.specs.declared.dir.Dir.{Dir}
@@ -13,23 +13,18 @@ use Rattle.smc_model.specs.World.{World}
 use Rattle.smc_core.specs.declared.done.Done.{Done}
 use Rattle.smc_core.specs.declared.done.Done.TheVariants as done
 use Rattle.smc_core.specs.declared.local.Owned.{Owned}
-use Rattle.smc_core.specs.declared.op.Op.{Op}
 use Rattle.smc_core.specs.declared.op.Op.TheVariants.{Load, Exchange}
 use Rattle.smc_core.specs.declared.phase.Phase.{Phase}
 use Rattle.smc_core.specs.declared.phase.Phase.TheVariants as phase
 use Rattle.smc_core.specs.declared.phase.moves.BeginPhase.TheVariants as begin
 use Rattle.smc_core.specs.declared.phase.moves.Count.{Count}
-use Rattle.smc_core.specs.declared.phase.moves.CountPhase.{CountPhase}
 use Rattle.smc_core.specs.declared.phase.moves.CountPhase.TheVariants as walk
-use Rattle.smc_core.specs.declared.phase.moves.Counting.{Counting}
-use Rattle.smc_core.specs.declared.phase.moves.Counting.TheVariants.{Walks, Counted}
 use Rattle.smc_core.specs.declared.phase.moves.Walk.{Walk}
 use Rattle.smc_core.specs.declared.section.Section.{Section}
 use Rattle.smc_core.specs.declared.word.State.TheVariants as state
-use Rattle.smc_core.specs.declared.word.Word.{Word}
 use Rattle.smc_core.specs.declared.word.Word.TheVariants as word
-use Rattle.smc_core.specs.Begin.{begin_counted, begin_counting, ends_round, first_walk, to_source, to_target}
-use Rattle.smc_core.specs.Count.{blocks_for, count_next, is_valid}
+use Rattle.smc_core.specs.Begin.{begin_counted, ends_round, first_walk, to_source, to_target}
+use Rattle.smc_core.specs.Count.{blocks_for, is_valid}
 use Rattle.smc_core.specs.Ripe.{is_ripe_slot}
 use Rattle.smc_core.specs.Section.{epoch_of}
 use Rattle.smc_core.specs.Step.{goes}
@@ -43,7 +38,6 @@ use Rattle.smc_packing.proofs.CountSteps.{HomesAreValid}
 use Rattle.smc_packing.proofs.Finishes.{AreLow, TargetsAreLow}
 use Rattle.smc_packing.proofs.Rooms.{is_valid_in, HasRoom, room-some, ArePassed}
 use Rattle.smc_packing.proofs.Runs.{IsStable}
-use Rattle.smc_packing.proofs.Stillness.{IsQuiet}
 use Rattle.smc_packing.proofs.Waiting.{AfterChange}
 
 module _ (shape : Layout) (coll epoch many : ℕ) (w0 : World) where
@@ -163,10 +157,13 @@ module _ (shape : Layout) (coll epoch many : ℕ) (w0 : World) where
       (λ n. record {
         in_world = refl;
         at_epoch = at_epoch;
-        part = (refl, (
-          subst (λ (c : ℕ). AreLow c kept memory) walking.of_it (subst (λ (k : ℕ). AreLow moves.coll k memory) walking.to (λ a e slot is. all a e slot is n)),
-          subst (λ (c : ℕ). TargetsAreLow c kept memory) walking.of_it (subst (λ (k : ℕ). TargetsAreLow moves.coll k memory) walking.to walking.low),
-        ));
+        part = (
+          refl,
+          (
+            subst (λ (c : ℕ). AreLow c kept memory) walking.of_it (subst (λ (k : ℕ). AreLow moves.coll k memory) walking.to (λ a e slot is. all a e slot is n)),
+            subst (λ (c : ℕ). TargetsAreLow c kept memory) walking.of_it (subst (λ (k : ℕ). TargetsAreLow moves.coll k memory) walking.to walking.low),
+          ),
+        );
       })
     where
       all : (a e slot : ℕ) → state_in memory moves.coll e ≡ state.Present a slot → nat_lt moves.source (slots_of shape moves.coll) ≡ false → slot < moves.kept
@@ -199,17 +196,17 @@ module _ (shape : Layout) (coll epoch many : ℕ) (w0 : World) where
       (λ n. let more : blocks_for count.objects < count.blocks = grind (arith, nat_tests, n) in
       let below : blocks_for count.objects * BLOCK_SLOTS ≤ slots_of shape coll = omega (arith, more, blocks, most) in
       to-source memory section owned (first_walk coll (blocks_for count.objects * BLOCK_SLOTS)) at_epoch
-          (record {
-            of_it = refl;
-            to = ap (λ (k : ℕ). blocks_for k * BLOCK_SLOTS) objects;
-            passed = λ a e slot is above. above;
-            low = λ slot is. absurd (not-ripe (dir_in memory coll slot) is (rested.ripe slot (incoming slot is) (ap is_valid is)));
-            inside = inside;
-          })
-          (record {
-            enough = room_before (is_valid_in memory coll) (blocks_for count.objects * BLOCK_SLOTS) (slots_of shape coll) below (omega (arith, fewer, rested.present, objects));
-            ripe = λ slot low high other. rested.ripe slot (omega (arith, below, high)) other;
-          }))
+      (record {
+        of_it = refl;
+        to = ap (λ (k : ℕ). blocks_for k * BLOCK_SLOTS) objects;
+        passed = λ a e slot is above. above;
+        low = λ slot is. absurd (not-ripe (dir_in memory coll slot) is (rested.ripe slot (incoming slot is) (ap is_valid is)));
+        inside = inside;
+      })
+      (record {
+        enough = room_before (is_valid_in memory coll) (blocks_for count.objects * BLOCK_SLOTS) (slots_of shape coll) below (omega (arith, fewer, rested.present, objects));
+        ripe = λ slot low high other. rested.ripe slot (omega (arith, below, high)) other;
+      }))
     where
       not-ripe : (d : Dir) → d ≡ dir.Incoming → is_ripe_slot epoch d ≡ true → ⊥
       not-ripe d is r = let no : is_ripe_slot epoch dir.Incoming ≡ true = subst (λ (x : Dir). is_ripe_slot epoch x ≡ true) is r in absurd (cc)

@@ -1,5 +1,6 @@
 -- A drive: a pass waits, packs one collection in a round of its own, and waits again before it finishes the round.
 use Rattle.std.specs.Prelude.{◌≡◌, ◌⊎◌, ℕ, ◌+◌, ◌≤◌, Option, Some, None, List, [], ◌∷◌, slice_get}
+use Rattle.std.specs.Option.{option_or}
 use Rattle.smc_shape.specs.Layout.{Layout}
 use Rattle.smc_core.specs.declared.call.Call.TheVariants as call
 use Rattle.smc_core.specs.declared.done.Done.{Done}
@@ -24,19 +25,15 @@ names (done.Advanced epoch) = Some epoch
 names (done.Overtaken epoch) = Some epoch
 names _ = None
 
--- the pass makes advances, one after the other, which end with these answers
+-- the pass makes advances, one after the other, and they end with these answers
 abbrev pub Advances : Layout → ℕ → List Done → Machine → Machine → Type 0
 Advances shape pass [] m last = m ≡ last
 Advances shape pass (answer ∷ later) m last = (next : Machine) × Makes shape pass call.Advance answer m next × Advances shape pass later next last
 
 -- the first epoch that one of the answers names, if one does
-abbrev pub or_else : Option ℕ → Option ℕ → Option ℕ
-or_else None later = later
-or_else (Some epoch) later = Some epoch
-
 abbrev pub first_named : List Done → Option ℕ
 first_named [] = None
-first_named (answer ∷ later) = or_else (names answer) (first_named later)
+first_named (answer ∷ later) = option_or (names answer) (first_named later)
 
 -- the epoch that the last answer names, if it names one
 abbrev pub last_named : List Done → Option ℕ
@@ -44,7 +41,7 @@ last_named [] = None
 last_named (answer ∷ []) = names answer
 last_named (answer ∷ next ∷ later) = last_named (next ∷ later)
 
--- the pass makes advances until one names an epoch two above the first that was named, or more
+-- the pass makes advances until one names an epoch at least two above the first that was named
 pub record Waits (shape : Layout) (pass : ℕ) (m last : Machine) : Type 0 where
   pub answers : List Done
   pub advances : Advances shape pass answers m last
