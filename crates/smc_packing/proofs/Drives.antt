@@ -15,7 +15,7 @@ use Rattle.smc_rules.specs.State as S
 use Rattle.smc_aside.specs.Makes.{Makes}
 use Rattle.smc_census.specs.Census.{is_home, homes, occupied}
 use Rattle.smc_census.proofs.Always.{blocks_enough, slots-whole}
-use Rattle.smc_census.proofs.BlockLaws.{packed_enough}
+use Rattle.smc_census.proofs.Always.{packed_enough}
 use Rattle.smc_packing.specs.Drive.{WaitsAndBegins, FindsNothing, Moves, Drives}
 use Rattle.smc_packing.proofs.Begins.{begin-carries}
 use Rattle.smc_packing.proofs.Ends.{known-homes}
@@ -133,7 +133,7 @@ module _ (opening : Opening) (shape : Layout) (valid : IsShape shape) (start : L
       let count : homes shape t.memory coll ≡ count_of t.world coll = known-homes opening shape t f.moment.scene.rule coll in
       let all : homes shape t.memory coll ≡ count_of w0 coll = count ∙ count-same coll w0 t.world f.in_world in record {
         idle = record { moment = f.moment; no_round = none-owned m f.moment f.none };
-        packed = packed_enough (is_home t.memory coll) (slots_of shape coll) (slots-whole shape coll valid) (λ slot lt is.
+        packed = packed_enough shape t.memory coll valid (λ slot lt is.
             subst (λ (n : ℕ). slot < blocks_for n * BLOCK_SLOTS) (sym all) (all-low opening shape t f.moment.scene.rule coll (blocks_for (count_of w0 coll) * BLOCK_SLOTS) f.none f.low slot lt is))
             ∙ ap blocks_for count;
       }

@@ -20,7 +20,6 @@ use Rattle.smc_rules.specs.Reads.{epoch_of_region, round_in, state_in, state_for
 use Rattle.smc_rules.specs.State as S
 use Rattle.smc_rules.proofs.CarryLaws.{by_pass}
 use Rattle.smc_agreement.specs.Entries.{stands_at, IsRoundOf}
-use Rattle.smc_inv_use.specs.Rest as rest
 use Rattle.smc_inv_use.specs.Rest.{IsAtRest, IsSlotAtRest, HasOneObject}
 use Rattle.smc_inv_use.proofs.RestLaws.{only_present, present_in_valid, slot_at_rest}
 use Rattle.smc_inv_use.proofs.Used.{Used}
@@ -34,13 +33,6 @@ use Rattle.smc_packing.proofs.Rooms.{is_valid_in}
 use Rattle.smc_packing.proofs.Scenes.{AsideIn}
 use Rattle.smc_packing.proofs.Stillness.{Still}
 use Rattle.smc_packing.proofs.Walks.{IsRested}
-
--- a pass that stands aside has no call in progress but an advance
-rests-aside : (next : Phase) → IsResting next → rest.IsResting next
-rests-aside phase.Idle r = tt
-rests-aside (phase.Advancing from other) r = tt
-rests-aside (phase.Ready from) r = tt
-rests-aside next r = absurd r
 
 -- an object that is present in a slot stands there
 present-stands : (a slot : ℕ) (w : E.State) → has_object_at a slot w ≡ true → stands_at w ≡ Some (a, slot)
@@ -67,8 +59,8 @@ module _ (opening : Opening) (shape : Layout) (s : S.State) (k : Known opening s
   pub at-rest : (s.stands pass).round ≡ None → IsAtRest shape s
   at-rest none = record {
     resting = λ i li. by_pass i pass
-        (λ same. subst (λ (j : ℕ). rest.IsResting (s.stands j).phase) (sym same) (subst rest.IsResting (sym idle) tt))
-        (λ apart. rests-aside (s.stands i).phase (aside i li apart).resting);
+        (λ same. subst (λ (j : ℕ). IsResting (s.stands j).phase) (sym same) (subst IsResting (sym idle) tt))
+        (λ apart. (aside i li apart).resting);
     no_round = no-round none;
   }
 

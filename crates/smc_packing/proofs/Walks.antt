@@ -32,7 +32,8 @@ use Rattle.smc_rules.specs.Memory.{Memory, apply}
 use Rattle.smc_rules.specs.Reads.{round_in, state_in, dir_in, back_in}
 use Rattle.smc_census.specs.Census.{is_home, homes, occupied}
 use Rattle.smc_census.specs.Counts.{any_in_block, count_below}
-use Rattle.smc_census.proofs.CountLaws.{count_below-le, count_below-weaker, room_before}
+use Rattle.smc_census.proofs.CountLaws.{count_below-le, count_below-weaker}
+use Rattle.smc_census.proofs.RoomLaws.{room-first}
 use Rattle.smc_census.proofs.WalkLaws.{CountsBelow, counts-all}
 use Rattle.smc_packing.proofs.CountSteps.{HomesAreValid}
 use Rattle.smc_packing.proofs.Finishes.{AreLow, TargetsAreLow}
@@ -204,7 +205,7 @@ module _ (shape : Layout) (coll epoch many : ℕ) (w0 : World) where
         inside = inside;
       })
       (record {
-        enough = room_before (is_valid_in memory coll) (blocks_for count.objects * BLOCK_SLOTS) (slots_of shape coll) below (omega (arith, fewer, rested.present, objects));
+        enough = room-first (is_valid_in memory coll) (slots_of shape coll) (blocks_for count.objects * BLOCK_SLOTS) below (omega (arith, fewer, rested.present, objects));
         ripe = λ slot low high other. rested.ripe slot (omega (arith, below, high)) other;
       }))
     where
