@@ -1,6 +1,6 @@
 -- A drive leaves the present objects of the collection in the fewest blocks.
 use Rattle.std.proofs.Common.{◌≡◌, ℕ, ◌+◌, ◌*◌, ◌<◌, ◌≤◌, None, List, refl, sym, ap, ◌∙◌, subst, inl, inr, arith}
-use Rattle.smc_shape.specs.Layout.{Layout, IsShape, slots_of}
+use Rattle.smc_shape.specs.Layout.{Layout, IsShape}
 use Rattle.smc_shape.specs.declared.coll.TheConstants.{BLOCK_SLOTS}
 use Rattle.smc_model.specs.World.{World, count_of}
 use Rattle.smc_core.specs.declared.call.Call.TheVariants as call
@@ -13,8 +13,8 @@ use Rattle.smc_core.specs.Section.{epoch_of}
 use Rattle.smc_rules.specs.Reads.{epoch_of_region, round_in}
 use Rattle.smc_rules.specs.State as S
 use Rattle.smc_aside.specs.Makes.{Makes}
-use Rattle.smc_census.specs.Census.{is_home, homes, occupied}
-use Rattle.smc_census.proofs.Always.{blocks_enough, slots-whole}
+use Rattle.smc_census.specs.Census.{homes, occupied}
+use Rattle.smc_census.proofs.Always.{blocks_enough}
 use Rattle.smc_census.proofs.Always.{packed_enough}
 use Rattle.smc_packing.specs.Drive.{WaitsAndBegins, FindsNothing, Moves, Drives}
 use Rattle.smc_packing.proofs.Begins.{begin-carries}

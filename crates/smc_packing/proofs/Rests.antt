@@ -8,7 +8,6 @@ use Rattle.smc_shape.specs.Layout.{Layout, slots_of}
 use Rattle.smc_shape.specs.declared.place.Place.TheVariants as place
 use Rattle.smc_model.specs.World.{World}
 use Rattle.smc_core.specs.declared.local.Opening.{Opening}
-use Rattle.smc_core.specs.declared.phase.Phase.{Phase}
 use Rattle.smc_core.specs.declared.phase.Phase.TheVariants as phase
 use Rattle.smc_core.specs.declared.word.State as E
 use Rattle.smc_core.specs.declared.word.State.TheVariants as state

@@ -1,8 +1,8 @@
 -- The date at the front of a text.
-use Rattle.std.proofs.Common.{◌≡◌, ◌⊎◌, inl, inr, ℕ, zero, suc, ◌+◌, ◌-◌, ◌≤◌, ◌<◌, Bool, true, false, cond, ◌&&◌, eqb, List, [], ◌∷◌, length, length-take-le, get_or, take, drop, None, Some, subst, refl, arith, ◌∙◌, sym, ap}
+use Rattle.std.proofs.Common.{◌≡◌, inl, inr, ℕ, zero, suc, ◌≤◌, ◌<◌, true, false, ◌&&◌, eqb, List, [], ◌∷◌, length, length-take-le, get_or, take, drop, None, subst, refl, arith, ◌∙◌, sym, ap}
 use Rattle.std.specs.Char.{is_ascii_digit}
 use Rattle.std.specs.List.{list_all}
-use Rattle.std.proofs.lemmas.Bool.{and_from, and_parts, and_left, and_right, cases_eq, cond-true, cond-false, eqb-true, ne_eqb, lt-leb, true≢false, false≢true}
+use Rattle.std.proofs.lemmas.Bool.{and_from, and_parts, and_left, and_right, cases_eq, cond-true, cond-false, eqb-true, false≢true}
 use Rattle.std.proofs.lemmas.List.{get_or-take}
 use Rattle.smc_tokens.specs.Front.{NoFront}
 use Rattle.smc_tokens.specs.Tokens.{dash, point, token_of, has_date_form, is_civil, is_date, are_digits, is_fraction, is_number, year_of, month_of, day_of, TakesToken}

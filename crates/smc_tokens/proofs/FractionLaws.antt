@@ -1,14 +1,12 @@
 -- The longest fraction at the front of a text: a point and decimals.
-use Rattle.std.proofs.Common.{◌≡◌, ◌⊎◌, inl, inr, ℕ, zero, suc, ◌+◌, ◌-◌, ◌*◌, ◌≤◌, ◌<◌, min, Bool, true, false, cond, ◌&&◌, ◌||◌, eqb, List, [], ◌∷◌, ◌++◌, length, length-take-le, length-drop, take-append-drop, get_or, take, drop, subst, refl, arith, ◌∙◌, sym, ap}
-use Rattle.std.specs.Char.{is_ascii_digit, digit_value}
-use Rattle.std.specs.List.{list_all, prefix_len}
-use Rattle.std.proofs.lemmas.Bool.{and_from, and_parts, and_left, and_right, cases_Bool, cases_lt, cond-true, cond-false, eqb-true, true≢false, false≢true, or_left, or_right, or_cases}
-use Rattle.std.proofs.lemmas.List.{take-take, take_all, drop_all, drop-take, get_or-drop}
+use Rattle.std.proofs.Common.{◌≡◌, ℕ, zero, suc, ◌+◌, ◌≤◌, ◌<◌, min, true, false, cond, ◌&&◌, eqb, List, [], ◌∷◌, length, length-take-le, get_or, take, drop, subst, refl, arith, sym, ap}
+use Rattle.std.specs.Char.{is_ascii_digit}
+use Rattle.std.specs.List.{prefix_len}
+use Rattle.std.proofs.lemmas.Bool.{and_from, and_left, and_right, eqb-true, false≢true}
 use Rattle.std.proofs.lemmas.List.Sums.{prefix_len-le-length, prefix_len_passes}
-use Rattle.smc_tokens.specs.Front.{IsLongest, NoFront, first_digits, decimals_in, fraction_len}
-use Rattle.smc_tokens.specs.Tokens.{point, digits_of, behind_digits, are_digits, is_fraction, is_number, number_of, is_date, TakesToken}
-use Rattle.smc_tokens.specs.declared.token.Token.TheVariants.{Number}
-use Rattle.smc_tokens.proofs.RunLaws.{prefix_len-take, digits_longest, all_front}
+use Rattle.smc_tokens.specs.Front.{IsLongest, first_digits, decimals_in, fraction_len}
+use Rattle.smc_tokens.specs.Tokens.{point, are_digits, is_fraction}
+use Rattle.smc_tokens.proofs.RunLaws.{digits_longest}
 
 -- where no digit stands first, no front is digits
 no_digits : (most : ℕ) (bytes : List ℕ) (m : ℕ) → prefix_len is_ascii_digit bytes ≡ 0 → are_digits most (take m bytes) ≡ false

@@ -1,9 +1,8 @@
 -- The first byte of a token decides its kind.
-use Rattle.std.proofs.Common.{◌≡◌, ◌⊎◌, inl, inr, ℕ, zero, suc, ◌+◌, ◌-◌, ◌≤◌, ◌<◌, Bool, true, false, cond, ◌&&◌, ◌||◌, eqb, List, [], ◌∷◌, length, get_or, take, drop, Option, Some, None, subst, refl, arith, ◌∙◌, sym, ap}
+use Rattle.std.proofs.Common.{◌≡◌, ℕ, zero, suc, ◌-◌, ◌≤◌, Bool, true, false, cond, eqb, List, [], ◌∷◌, length, get_or, take, drop, Some, None, subst, refl, arith, ◌∙◌, sym, ap}
 use Rattle.std.specs.Char.{is_ascii_digit, is_ascii_lowercase}
-use Rattle.std.specs.List.{find}
 use Rattle.std.specs.Str.{bytes_eq}
-use Rattle.std.proofs.lemmas.Bool.{and_left, and_right, and_parts, or_parts, or_left, or_right, ne_eqb, leb-true, lt-leb, cond-true, cond-false, true≢false, false≢true}
+use Rattle.std.proofs.lemmas.Bool.{and_left, and_right, and_parts, or_parts, or_left, or_right, ne_eqb, leb-true, lt-leb, cond-true, cond-false, true≢false}
 use Rattle.smc_tokens.specs.Front.{IsLongest, NoFront, begins_other, spelled_word, spelled_sign}
 use Rattle.smc_tokens.specs.Marks.{sign_text}
 use Rattle.smc_tokens.specs.Tokens.{all_signs, quote, named, token_of, signed, is_name, is_date, is_number, is_quoted, number_of, year_of, month_of, day_of, TakesToken, BeginsNoToken}

@@ -1,13 +1,11 @@
 -- The name at the front of a text.
-use Rattle.std.proofs.Common.{◌≡◌, inl, inr, ℕ, zero, suc, ◌+◌, ◌-◌, ◌≤◌, ◌<◌, min, true, eqb, List, [], ◌∷◌, length, get_or, take, subst, refl, arith, ◌∙◌, sym, ap, ◌||◌}
+use Rattle.std.proofs.Common.{◌≡◌, inl, inr, ℕ, ◌-◌, ◌≤◌, ◌<◌, min, true, eqb, List, get_or, take, subst, arith, sym, ◌||◌}
 use Rattle.std.specs.Char.{is_ascii_digit, is_ascii_lowercase}
 use Rattle.std.specs.List.{prefix_len}
 use Rattle.std.specs.Str.{IsUtf8, IsCharBoundary}
-use Rattle.std.proofs.lemmas.Bool.{and_parts, leb-true, eqb-true, or_cases, true≢false}
-use Rattle.std.proofs.lemmas.List.Sums.{prefix_len-le-length, prefix_len_passes}
-use Rattle.smc_tokens.specs.Front.{spelled_word}
-use Rattle.smc_tokens.specs.Tokens.{is_name, is_name_byte, named, underscore, TakesToken}
-use Rattle.smc_tokens.specs.declared.token.Token.{Token}
+use Rattle.std.proofs.lemmas.Bool.{and_parts, leb-true, eqb-true, or_cases}
+use Rattle.std.proofs.lemmas.List.Sums.{prefix_len_passes}
+use Rattle.smc_tokens.specs.Tokens.{is_name, is_name_byte, underscore, TakesToken}
 use Rattle.smc_tokens.proofs.AsciiLaws.{ascii_cut, taken_some}
 use Rattle.smc_tokens.proofs.DigitLaws.{digit_range}
 use Rattle.smc_tokens.proofs.KindLaws.{name_token, letter_front, takes_longest}

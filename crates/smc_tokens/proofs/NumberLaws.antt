@@ -1,10 +1,10 @@
 -- The longest number at the front of a text, and what it spells.
-use Rattle.std.proofs.Common.{◌≡◌, ◌⊎◌, inl, inr, ℕ, zero, suc, ◌+◌, ◌-◌, ◌*◌, ◌≤◌, ◌<◌, min, Bool, true, false, cond, ◌&&◌, ◌||◌, eqb, List, [], ◌∷◌, ◌++◌, length, length-take-le, length-drop, take-append-drop, get_or, take, drop, subst, refl, arith, ◌∙◌, sym, ap}
+use Rattle.std.proofs.Common.{◌≡◌, inl, inr, ℕ, ◌+◌, ◌-◌, ◌*◌, ◌≤◌, ◌<◌, min, Bool, true, ◌&&◌, ◌||◌, eqb, List, [], ◌∷◌, ◌++◌, length, length-take-le, length-drop, take-append-drop, get_or, take, drop, subst, refl, arith, ◌∙◌, sym, ap}
 use Rattle.std.specs.Char.{is_ascii_digit, digit_value}
 use Rattle.std.specs.List.{list_all, prefix_len}
 use Rattle.std.specs.Str.Parse.{digits_value, digits_value_after}
-use Rattle.std.proofs.lemmas.Bool.{and_from, and_parts, and_left, and_right, cases_Bool, cases_lt, cond-true, cond-false, eqb-true, true≢false, false≢true, or_left, or_right, or_cases}
-use Rattle.std.proofs.lemmas.List.{take-take, take_all, drop_all, drop-take, get_or-drop}
+use Rattle.std.proofs.lemmas.Bool.{and_from, and_parts, and_left, and_right, cases_lt, eqb-true, false≢true, or_left, or_right, or_cases}
+use Rattle.std.proofs.lemmas.List.{take-take, drop_all, drop-take, get_or-drop}
 use Rattle.std.proofs.lemmas.List.Sums.{prefix_len-le-length, prefix_len_passes}
 use Rattle.smc_tokens.specs.Front.{IsLongest, NoFront, first_digits, decimals_in, fraction_len}
 use Rattle.smc_tokens.specs.Tokens.{point, digits_of, behind_digits, are_digits, is_fraction, is_number, number_of, is_date, TakesToken}

@@ -1,10 +1,9 @@
 -- The text between quotes at the front of a text.
-use Rattle.std.proofs.Common.{◌≡◌, ◌⊎◌, inl, inr, ℕ, zero, suc, ◌+◌, ◌-◌, ◌≤◌, ◌<◌, Bool, true, false, cond, ◌&&◌, eqb, List, [], ◌∷◌, length, length-take-le, get_or, take, drop, subst, refl, arith, ◌∙◌, sym, ap}
-use Rattle.std.specs.List.{list_all, prefix_len}
+use Rattle.std.proofs.Common.{◌≡◌, ℕ, zero, suc, ◌+◌, ◌-◌, ◌≤◌, ◌<◌, true, false, List, [], ◌∷◌, length, length-take-le, get_or, take, drop, subst, refl, arith, ◌∙◌, sym, ap}
+use Rattle.std.specs.List.{prefix_len}
 use Rattle.std.specs.Str.{IsUtf8, IsCharBoundary}
-use Rattle.std.proofs.lemmas.Bool.{and_from, and_left, and_right, cases_Bool, cases_eq, cond-true, cond-false, eqb-true, eq-eqb, ne_eqb, true≢false, false≢true}
+use Rattle.std.proofs.lemmas.Bool.{and_from, and_left, and_right, cond-true, cond-false, eq-eqb, ne_eqb}
 use Rattle.std.proofs.lemmas.List.{take-take}
-use Rattle.std.proofs.lemmas.List.Sums.{prefix_len-le-length}
 use Rattle.smc_tokens.specs.Front.{IsLongest, NoFront}
 use Rattle.smc_tokens.specs.Tokens.{quote, is_text_byte, ends_quoted, is_quoted, TakesToken, BeginsNoToken}
 use Rattle.smc_tokens.specs.declared.token.Token.TheVariants.{Text}

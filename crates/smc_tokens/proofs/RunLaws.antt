@@ -1,11 +1,11 @@
 -- How far a text goes on with bytes that pass a test, and the fronts that are so.
-use Rattle.std.proofs.Common.{◌≡◌, ◌⊎◌, inl, inr, ℕ, zero, suc, ◌+◌, ◌-◌, ◌≤◌, ◌<◌, min, Bool, true, false, cond, ◌&&◌, List, [], ◌∷◌, length, length-take-le, get_or, take, drop, subst, refl, arith, ◌∙◌, sym, ap}
+use Rattle.std.proofs.Common.{◌≡◌, inl, inr, ℕ, zero, suc, ◌+◌, ◌-◌, ◌≤◌, ◌<◌, min, Bool, true, false, cond, ◌&&◌, List, [], ◌∷◌, length, length-take-le, get_or, take, subst, refl, arith, ◌∙◌, sym}
 use Rattle.std.specs.Prelude.{nat_lt}
 use Rattle.std.specs.Char.{is_ascii_digit, is_ascii_lowercase}
 use Rattle.std.specs.List.{list_all, prefix_len}
-use Rattle.std.proofs.lemmas.Bool.{and_from, and_left, and_right, cases_Bool, cases_lt, or_left, lt-ltb, le-ltb, cond-true, cond-false, true≢false}
+use Rattle.std.proofs.lemmas.Bool.{and_from, and_left, and_right, cases_lt, or_left, lt-ltb, le-ltb, cond-true, true≢false}
 use Rattle.std.proofs.lemmas.List.Sums.{prefix_len-le-length}
-use Rattle.smc_tokens.specs.Front.{IsLongest, first_digits}
+use Rattle.smc_tokens.specs.Front.{IsLongest}
 use Rattle.smc_tokens.specs.Tokens.{is_name, is_name_byte, are_digits}
 
 -- a front no longer than the run passes whole

@@ -1,6 +1,6 @@
-use Rattle.std.proofs.Common.{◌≡◌, true, false, take, drop, sym, ◌∙◌, ap, subst, arith}
-use Rattle.smc_tokens.specs.Tokens.{has_date_form, is_civil, year_of, month_of, day_of}
-use Rattle.smc_tokens.proofs.DateLaws.{HasDigits, form_digits, no_form, no_civil, too_short, no_date, date_found}
+use Rattle.std.proofs.Common.{◌≡◌, sym, ◌∙◌, arith}
+use Rattle.smc_tokens.specs.Tokens.{is_civil, year_of, month_of, day_of}
+use Rattle.smc_tokens.proofs.DateLaws.{form_digits, no_form, no_civil, too_short, no_date, date_found}
 use Rattle.smc_tokens.proofs.date.read_date.Goals as goal
 
 pub returns-then-text-lt-DATE : goal.returns-then-text-lt-DATE

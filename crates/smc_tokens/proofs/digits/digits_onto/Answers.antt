@@ -1,4 +1,4 @@
-use Rattle.std.proofs.Common.{◌+◌, ◌-◌, ◌*◌, ◌≤◌, ◌<◌, ◌^◌, length, get_or, arith}
+use Rattle.std.proofs.Common.{◌+◌, ◌*◌, ◌≤◌, ◌<◌, ◌^◌, length, arith}
 use Rattle.smc_tokens.proofs.DigitLaws.{room_more, bound_more, value_more, digit_small}
 use Rattle.smc_tokens.proofs.digits.digits_onto.Goals as goal
 

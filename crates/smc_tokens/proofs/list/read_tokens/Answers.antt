@@ -1,4 +1,4 @@
-use Rattle.std.proofs.Common.{◌≡◌, ◌<◌, ◌≤◌, ◌-◌, length, drop, sym, ◌∙◌, subst, ap, refl, arith, false-eqb}
+use Rattle.std.proofs.Common.{◌<◌, length, sym, subst, refl, arith, false-eqb}
 use Rattle.std.proofs.lemmas.Bool.{eqb-true}
 use Rattle.smc_tokens.specs.Front.{Finds, BeginsWith}
 use Rattle.smc_tokens.specs.Tokens.{BeginsNoToken}

@@ -1,4 +1,4 @@
-use Rattle.std.proofs.Common.{◌≡◌, ◌∙◌, ap}
+use Rattle.std.proofs.Common.{◌∙◌, ap}
 use Rattle.std.specs.List.{prefix_len}
 use Rattle.smc_tokens.proofs.ListLaws.{is_space, spaces_cut}
 use Rattle.smc_tokens.proofs.list.skip_spaces.Goals as goal

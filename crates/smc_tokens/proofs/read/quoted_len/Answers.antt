@@ -1,6 +1,5 @@
-use Rattle.std.proofs.Common.{◌≡◌, ◌≤◌, sym, ◌∙◌, get_or, arith}
+use Rattle.std.proofs.Common.{◌≡◌, get_or, arith}
 use Rattle.std.proofs.lemmas.List.{get_or_past}
-use Rattle.smc_tokens.specs.Tokens.{quote}
 use Rattle.smc_tokens.proofs.QuoteLaws.{longest_inside, none_inside}
 use Rattle.smc_tokens.proofs.read.quoted_len.Goals.{else-len-inside-via-then-len-inside+else-inside-len-eq-QUOTE, else-len-inside-via-else-len-inside}
 use Rattle.smc_tokens.proofs.read.quoted_len.Goals as goal

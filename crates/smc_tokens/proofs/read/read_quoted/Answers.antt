@@ -1,4 +1,4 @@
-use Rattle.std.proofs.Common.{◌≡◌, ◌+◌, ◌-◌, ◌<◌, get_or, length, subst, sym, ◌∙◌, ap, arith}
+use Rattle.std.proofs.Common.{◌≡◌, ◌+◌, ◌-◌, ◌<◌, get_or, length, subst, sym, ◌∙◌, arith}
 use Rattle.smc_tokens.specs.Tokens.{quote, ends_quoted}
 use Rattle.smc_tokens.specs.Front.{IsLongest, NoFront}
 use Rattle.smc_tokens.proofs.QuoteLaws.{quote_cut, quoted_found, quoted_none}

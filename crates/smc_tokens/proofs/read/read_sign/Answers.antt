@@ -1,4 +1,4 @@
-use Rattle.std.proofs.Common.{◌≡◌, sym, ◌∙◌}
+use Rattle.std.proofs.Common.{sym, ◌∙◌}
 use Rattle.smc_tokens.proofs.SignLaws.{pair_found, byte_found, sign_none}
 use Rattle.smc_tokens.proofs.read.read_sign.Goals as goal
 

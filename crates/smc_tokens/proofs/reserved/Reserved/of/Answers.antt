@@ -1,6 +1,5 @@
 use Rattle.std.proofs.Common.{◌≡◌, sym}
 use Rattle.smc_tokens.specs.Marks.{word_text}
-use Rattle.smc_tokens.specs.declared.reserved.Reserved.{Reserved}
 use Rattle.smc_tokens.specs.declared.reserved.Reserved.TheVariants.{From, Where, By, Show, Sort, First, As, And, Or, Not, Between, Desc, Sum, Avg, Min, Max, Count, Fold}
 use Rattle.smc_tokens.proofs.Finding.{no_word}
 use Rattle.smc_tokens.proofs.reserved.Reserved.of.Goals as goal
