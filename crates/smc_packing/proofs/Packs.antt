@@ -54,7 +54,7 @@ module _ (opening : Opening) (shape : Layout) (valid : IsShape shape) (start : L
         blocks = same-occupied shape valid coll s0.memory z.memory (still-homes shape coll s0.memory z.memory t.says.still);
       }
 
--- a machine that was reached, in which the pass is free
+-- a machine that was reached, in which the pass stands idle
 record HasStoodIdle (opening : Opening) (shape : Layout) (valid : IsShape shape) (start : List ℕ) (pass : ℕ) (m : Machine) : Type 0 where
   inside : pass < shape.passes
   free : IsIdleMoment opening shape valid start pass inside m
