@@ -1,6 +1,6 @@
 #!/usr/bin/env bash
 # Times ten million sections that are entered and left, and eighty million loads of an object's fields by
-# `Section::act`, beside hand-written Rust that does the same atomic steps on a slice of words (bench/act.rs); counts the
+# `Section::act`, beside hand-written Rust that does the same atomic steps (bench/act.rs); counts the
 # instructions of each, and prints the machine code of both loops.
 set -euo pipefail
 top=$(dirname "$(dirname "$(readlink -f "$0")")")

@@ -5,8 +5,10 @@
 //! Nothing stands on it.
 #![tactic(auto)]
 
-ghost use Rattle.std.specs.Prelude.{◌≡◌, ◌<◌, ◌∷◌, [], IsTrue, IfOk, Some, length};
+ghost use Rattle.std.specs.Prelude.{◌≡◌, ◌<◌, ◌^◌, ◌∷◌, [], IsTrue, IfOk, Some, length};
 ghost use Rattle.smc_shape.specs.Layout.{asked, width_of};
+ghost use Rattle.smc_shape.specs.Places.{at};
+ghost use Rattle.smc_shape.specs.declared.place.Place.TheVariants.{Field};
 ghost use Rattle.smc_core.specs.declared.phase.Phase.TheVariants.{Idle, Add};
 ghost use Rattle.smc_core.specs.declared.phase.objects.AddPhase.TheVariants.{StoreBack};
 ghost use Rattle.smc_core.specs.Add.{takes};
@@ -15,7 +17,7 @@ ghost use Rattle.smc_rules.specs.Reads.{object};
 ghost use Rattle.smc_region.specs.Callers.{IsPassOf, IsSame};
 
 use smc_core::{Op, Opening, State, Word};
-use smc_region::{Chosen, Held, Pass, Region, Section};
+use smc_region::{Act, Chosen, Held, Pass, Region, Section};
 use smc_shape::{CollShape, Place, Shape};
 use smc_words::{Dir, Number};
 use std::alloc::{AllocError, Global};
@@ -34,30 +36,31 @@ fn enter_and_leave(region: &Region, pass: Pass, turns: u32) -> Pass
     pass
 }
 
-/// The sum of the fields of an object that the section holds, each loaded so many times.
+/// The sum of the fields of an object that the section holds, each loaded so many times: the first of them by its place,
+/// and then all by the index of the first one's word.
 #[inline(never)]
-fn read_fields(section: &mut Section<'_>, held: Held, width: u32, turns: u32) -> u64
+fn read_fields(section: &mut Section<'_>, held: Held, first: usize, width: u32, turns: u32) -> u64
     requires idle { section.old.local.stand.phase ≡ Idle }
     requires held { held_slot section.old.local.stand.held held.number ≡ Some held.place }
+    requires first { first ≡ at section.old.shape (Field held.number.coll held.place 0) }
+    requires small { first < 2 ^ 32 }
     requires width { width ≡ width_of section.old.shape held.number.coll }
     ensures same { IsSame section.old section.new }
     ensures idle { section.new.local.stand.phase ≡ Idle }
     ensures held { held_slot section.new.local.stand.held held.number ≡ Some held.place }
 {
     let number = held.number();
-    let slot = held.place();
     let mut sum = 0u64;
     let _ = section.calm();
     for _ in 0..turns {
         for field in 0..width {
-            let load = Op::Load {
-                place: Place::Field {
-                    coll: number.coll,
-                    slot,
-                    field,
-                },
+            let load = Act {
+                kind: 19,
+                word: first + field as usize,
+                expect: 0,
+                put: 0,
             };
-            let value = section.take(Chosen::Read { number, field }, load).plain();
+            let value = section.act(Chosen::Read { number, field }, load);
             sum = sum.wrapping_add(value);
         }
     }
@@ -198,8 +201,20 @@ fn add_and_read(region: &Region, pass: Pass, turns: u32) -> Option<u64>
         coll: 0,
     };
     let held = section.deref(number)?;
-    let width = section.region().shape().width(0);
-    Some(read_fields(&mut section, held, width, turns))
+    let field = Op::Load {
+        place: Place::Field {
+            coll: 0,
+            slot: held.place(),
+            field: 0,
+        },
+    };
+    section.take(Chosen::Read { number, field: 0 }, field);
+    let shape = section.region().shape();
+    let (first, width) = (shape.field_at(0, held.place(), 0), shape.width(0));
+    if first >= 1 << 32 {
+        return None;
+    }
+    Some(read_fields(&mut section, held, first, width, turns))
 }
 
 fn main(rt: HostRuntime) -> Result<(), AllocError> {

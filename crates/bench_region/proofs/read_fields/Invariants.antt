@@ -10,7 +10,7 @@ invariant-loop l = record {
   same : IsSame l.fn.section l.section;
   inside : l.section.local.stand.section ≡ l.fn.section.local.stand.section;
   idle : l.section.local.stand.phase ≡ Idle;
-  held : held_slot l.section.local.stand.held l.number ≡ Some l.slot;
+  held : held_slot l.section.local.stand.held l.number ≡ Some l.fn.held.place;
 }
 
 abbrev pub invariant-loop-field : goal.invariant-loop-field
@@ -18,5 +18,5 @@ invariant-loop-field l = record {
   same : IsSame l.fn.section l.section;
   inside : l.section.local.stand.section ≡ l.fn.section.local.stand.section;
   idle : l.section.local.stand.phase ≡ Idle;
-  held : held_slot l.section.local.stand.held l.number ≡ Some l.slot;
+  held : held_slot l.section.local.stand.held l.number ≡ Some l.fn.held.place;
 }
