@@ -5,7 +5,8 @@
 //! have each log as that pass has it, know what was told, lead from the empty world to the world of the state reached, and
 //! visit by each scan, once, what is present throughout. `specs/Alone.antt` says the other: what logs and answers have to
 //! tell for events of a log to be alone, and that all other passes stood aside then; `specs/Worked.antt` has schedules.
-//! Callers may rely on all of these laws; no crate stands above yet.
+//! Callers may rely on all of these laws. `smc_census` and `smc_packing` stand above.
+//!
 //! `proofs/EventLaws.antt` says that what a step tells may happen at its moment, `proofs/OrderSteps.antt` what a step adds
 //! to the order; `proofs/ScanSteps.antt` what it makes of its section's scans, `proofs/Histories.antt` what an event makes
 //! of the history of a scan, `proofs/ScansKnown.antt` that the rule of scans is kept. `proofs/Ordered.antt` joins them.
