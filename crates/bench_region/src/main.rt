@@ -36,8 +36,8 @@ fn enter_and_leave(region: &Region, pass: Pass, turns: u32) -> Pass
     pass
 }
 
-/// The sum of the fields of an object that the section holds, each loaded so many times: the first of them by its place,
-/// and then all by the index of the first one's word.
+/// The sum of the fields of an object that the section holds, each loaded so many times by the index of its word, behind
+/// that of the first one.
 #[inline(never)]
 fn read_fields(section: &mut Section<'_>, held: Held, first: usize, width: u32, turns: u32) -> u64
     requires idle { section.old.local.stand.phase ≡ Idle }
@@ -67,7 +67,7 @@ fn read_fields(section: &mut Section<'_>, held: Held, first: usize, width: u32, 
     sum
 }
 
-/// The words of an add in progress of a region's first object: its first slot and its first entry are claimed.
+/// Starts the add of a region's first object. Answers whether it has claimed the first slot and the first entry.
 fn claim_first(section: &mut Section<'_>, words: &[u64]) -> bool
     requires idle { section.old.local.stand.phase ≡ Idle }
     requires takes { IsTrue (takes section.old.shape 0 0 words.now) }
