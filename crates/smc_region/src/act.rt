@@ -202,7 +202,8 @@ fn move_cursor_by(shape: &Shape, cursors: &mut Box<Vec<u32>>, act: Act)
 
 impl<'r> Section<'r> {
     /// One atomic step by numbers: the one that the pass offers for this choice. Answers the number that a load, an
-    /// exchange or a mark found, and 0 for a store. `take` is the same step, typed, and the faster of the two.
+    /// exchange or a mark found, and 0 for a store. `take` is the same step, typed; this one is for a caller that has the
+    /// index of a word already, as of the fields of an object.
     #[inline(always)]
     pub fn act(&mut self, chosen: Chosen<'_>, act: Act) -> u64
         requires within { IsWithin (choice_of self.old.local.stand.scans chosen) }
