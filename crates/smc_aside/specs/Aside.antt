@@ -29,6 +29,19 @@ pub record StandsAside (stand : Stand) : Type 0 where
 abbrev pub OthersAside : ℕ → List Local → Type 0
 OthersAside pass locals = (other : ℕ) (l : Local) → other ≢ pass → slice_get locals other ≡ Some l → StandsAside l.stand
 
+-- the pass stands idle: in no call, outside sections, without a round
+pub record StandsIdle (pass : ℕ) (locals : List Local) : Type 0 where
+  pub local : Local
+  pub here : slice_get locals pass ≡ Some local
+  pub idle : local.stand.phase ≡ phase.Idle
+  pub outside : local.stand.section ≡ Outside
+  pub no_round : local.stand.round ≡ None
+
+-- it stands idle, and the others stand aside
+pub record IsAlone (pass : ℕ) (m : Machine) : Type 0 where
+  pub idle : StandsIdle pass m.locals
+  pub others : OthersAside pass m.locals
+
 -- what one that stands aside may choose: an advance or a note, or to go on
 abbrev pub IsAsideChoice : Choice → Type 0
 IsAsideChoice Go = Unit {0}

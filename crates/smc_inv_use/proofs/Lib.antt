@@ -12,3 +12,4 @@ pub mod UsesTargets
 pub mod UsesFinishes
 pub mod UsesCancels
 pub mod EachUses
+pub mod EpochsTold

@@ -24,20 +24,21 @@ use Rattle.smc_core.specs.Step.{when}
 use Rattle.smc_core.specs.Words.{round_of}
 use Rattle.smc_rules.specs.Memory.{Memory, apply, seen}
 use Rattle.smc_rules.specs.Reads.{round_in}
+use Rattle.smc_aside.proofs.Runs.{IsKeptBy, Carries}
+use Rattle.smc_aside.proofs.Waiting.{AfterChange}
 use Rattle.smc_agreement.proofs.CrossLaws.{below}
 use Rattle.smc_agreement.proofs.Whole.{shut}
 use Rattle.smc_census.specs.Census.{is_home}
 use Rattle.smc_census.proofs.Always.{slots-whole}
 use Rattle.smc_census.proofs.WalkLaws.{counts-none}
-use Rattle.smc_packing.proofs.Runs.{IsKeptBy, Carries}
+use Rattle.smc_packing.proofs.Known.{Known}
 use Rattle.smc_packing.proofs.Sources as sources
 use Rattle.smc_packing.proofs.Targets as targets
-use Rattle.smc_packing.proofs.Waiting.{AfterChange}
 use Rattle.smc_packing.proofs.Walks.{Beginning, begin-stable, begin-idle}
 
 module _ (opening : Opening) (shape : Layout) (valid : IsShape shape) (coll epoch many : ℕ) (w0 : World) (pass : ℕ) where
   -- the round word is exchanged, and the count begins
-  begin-starts : IsKeptBy (Beginning shape coll epoch many w0) opening shape pass (Start (call.Begin coll))
+  begin-starts : IsKeptBy (Beginning shape coll epoch many w0) (Known opening shape) shape pass (Start (call.Begin coll))
   begin-starts s e aside within (Inside x calm) owned phase.Idle at_sec at_round at_call p = may (nat_lt coll (length shape.colls)) refl
     where
       counts : (round : Option RoundWord) → nat_lt coll (length shape.colls) ≡ true → (owned : Option Owned) → AfterChange (Beginning shape coll epoch many w0) (apply (round_offer pass x coll).op s.memory) s.world (Inside x calm) owned (round_seen coll round)
@@ -68,59 +69,59 @@ module _ (opening : Opening) (shape : Layout) (valid : IsShape shape) (coll epoc
       subst (λ (z : World). AfterChange (Beginning shape coll epoch many w0) memory z section owned (begin_change shape (epoch_of section) next w)) (sym same)
       (subst (λ (x : ℕ). AfterChange (Beginning shape coll epoch many w0) memory w0 section owned (begin_change shape x next w)) (sym at) holds)
 
-  begin-goes : IsKeptBy (Beginning shape coll epoch many w0) opening shape pass Go
+  begin-goes : IsKeptBy (Beginning shape coll epoch many w0) (Known opening shape) shape pass Go
   begin-goes s e aside within section owned phase.Idle at_sec at_round at_call p = tt
   begin-goes s e aside within section owned (phase.Begin (begin.Count (walk.Directory of slot count))) at_sec at_round at_call p = λ told.
       lift s.memory s.world section owned (begin.Count (walk.Directory of slot count)) (s.memory (place.Directory of slot)) p.in_world p.at_epoch
-      (sources.count-directory opening shape coll epoch many w0 (slots-whole shape coll valid) s e pass within section owned p.at_epoch of slot count p.part)
+      (sources.count-directory opening shape coll epoch many w0 (slots-whole shape coll valid) s e.all pass within section owned p.at_epoch of slot count p.part)
   begin-goes s e aside within section owned (phase.Begin (begin.Count (walk.Back of slot count))) at_sec at_round at_call p = λ told.
       lift s.memory s.world section owned (begin.Count (walk.Back of slot count)) (s.memory (place.Back of slot)) p.in_world p.at_epoch
-      (sources.count-back opening shape coll epoch many w0 (slots-whole shape coll valid) s e pass within section owned p.at_epoch of slot count p.part)
+      (sources.count-back opening shape coll epoch many w0 (slots-whole shape coll valid) s e.all pass within section owned p.at_epoch of slot count p.part)
   begin-goes s e aside within section owned (phase.Begin (begin.Count (walk.Entry of slot count number))) at_sec at_round at_call p = λ told.
       lift s.memory s.world section owned (begin.Count (walk.Entry of slot count number)) (s.memory (place.Entry number.coll number.entry)) p.in_world p.at_epoch
-      (sources.count-entry opening shape coll epoch many w0 (slots-whole shape coll valid) s e pass within section owned p.at_epoch of slot count p.part.0 number p.part.1)
+      (sources.count-entry opening shape coll epoch many w0 (slots-whole shape coll valid) s e.all pass within section owned p.at_epoch of slot count p.part.0 number p.part.1)
   begin-goes s e aside within section owned (phase.Begin (begin.Nothing of)) at_sec at_round at_call p = λ told. record { in_world = p.in_world; at_epoch = p.at_epoch; part = (refl, (p.part.0, p.part.1, refl)) }
   begin-goes s e aside within section owned (phase.Begin (begin.SourceDirectory moves)) at_sec at_round at_call p = λ told.
-      let where_it_is = below shape s (shut e.whole) pass within (begin.SourceDirectory moves) at_call in
+      let where_it_is = below shape s (shut e.all.whole) pass within (begin.SourceDirectory moves) at_call in
       lift s.memory s.world section owned (begin.SourceDirectory moves) (s.memory (place.Directory moves.coll moves.source)) p.in_world p.at_epoch
-      (sources.source-directory opening shape coll epoch many w0 (slots-whole shape coll valid) s e pass within section owned p.at_epoch moves p.part.0 p.part.1 where_it_is.0)
+      (sources.source-directory opening shape coll epoch many w0 (slots-whole shape coll valid) s e.all pass within section owned p.at_epoch moves p.part.0 p.part.1 where_it_is.0)
   begin-goes s e aside within section owned (phase.Begin (begin.SourceBack moves)) at_sec at_round at_call p = λ told.
-      let where_it_is = below shape s (shut e.whole) pass within (begin.SourceBack moves) at_call in
+      let where_it_is = below shape s (shut e.all.whole) pass within (begin.SourceBack moves) at_call in
       lift s.memory s.world section owned (begin.SourceBack moves) (s.memory (place.Back moves.coll moves.source)) p.in_world p.at_epoch
-      (sources.source-back opening shape coll epoch many w0 (slots-whole shape coll valid) s e pass within section owned p.at_epoch moves p.part.0 p.part.1 where_it_is.0 where_it_is.1 p.part.2)
+      (sources.source-back opening shape coll epoch many w0 (slots-whole shape coll valid) s e.all pass within section owned p.at_epoch moves p.part.0 p.part.1 where_it_is.0 where_it_is.1 p.part.2)
   begin-goes s e aside within section owned (phase.Begin (begin.SourceEntry moves number)) at_sec at_round at_call p = λ told.
-      let where_it_is = below shape s (shut e.whole) pass within (begin.SourceEntry moves number) at_call in
+      let where_it_is = below shape s (shut e.all.whole) pass within (begin.SourceEntry moves number) at_call in
       lift s.memory s.world section owned (begin.SourceEntry moves number) (s.memory (place.Entry number.coll number.entry)) p.in_world p.at_epoch
-      (sources.source-entry opening shape coll epoch many w0 (slots-whole shape coll valid) s e pass within section owned p.at_epoch moves p.part.0 p.part.1 where_it_is.0 number where_it_is.1 p.part.2 p.part.3 p.part.4)
+      (sources.source-entry opening shape coll epoch many w0 (slots-whole shape coll valid) s e.all pass within section owned p.at_epoch moves p.part.0 p.part.1 where_it_is.0 number where_it_is.1 p.part.2 p.part.3 p.part.4)
   begin-goes s e aside within section owned (phase.Begin (begin.TargetDirectory moves number)) at_sec at_round at_call p = λ told.
-      let at = below shape s (shut e.whole) pass within (begin.TargetDirectory moves number) at_call in
+      let at = below shape s (shut e.all.whole) pass within (begin.TargetDirectory moves number) at_call in
       lift s.memory s.world section owned (begin.TargetDirectory moves number) (s.memory (place.Directory moves.coll moves.target)) p.in_world p.at_epoch
-      (targets.target-directory opening shape coll epoch many w0 s e section owned p.at_epoch moves number p.part.0 p.part.1 at.1 at.0 at.2 p.part.2)
+      (targets.target-directory opening shape coll epoch many w0 s e.all section owned p.at_epoch moves number p.part.0 p.part.1 at.1 at.0 at.2 p.part.2)
   begin-goes s e aside within section owned (phase.Begin (begin.ClaimTarget moves number d)) at_sec at_round at_call p = λ told.
-      let at = below shape s (shut e.whole) pass within (begin.ClaimTarget moves number d) at_call in
+      let at = below shape s (shut e.all.whole) pass within (begin.ClaimTarget moves number d) at_call in
       lift (apply (begin_offer epoch (begin.ClaimTarget moves number d)).op s.memory) s.world section owned (begin.ClaimTarget moves number d) (s.memory (place.Directory moves.coll moves.target)) p.in_world p.at_epoch
-      (targets.claim-target opening shape coll epoch many w0 s e section owned p.at_epoch moves number p.part.0 p.part.1 at.1 at.0 at.2 d p.part.2 p.part.3 p.part.4)
+      (targets.claim-target opening shape coll epoch many w0 s e.all section owned p.at_epoch moves number p.part.0 p.part.1 at.1 at.0 at.2 d p.part.2 p.part.3 p.part.4)
   begin-goes s e aside within section owned (phase.Begin (begin.BlankField moves number field)) at_sec at_round at_call p = λ told.
-      let at = below shape s (shut e.whole) pass within (begin.BlankField moves number field) at_call in
+      let at = below shape s (shut e.all.whole) pass within (begin.BlankField moves number field) at_call in
       lift (apply (begin_offer epoch (begin.BlankField moves number field)).op s.memory) s.world section owned (begin.BlankField moves number field) (seen (begin_offer epoch (begin.BlankField moves number field)).op s.memory) p.in_world p.at_epoch
-      (targets.blank-field opening shape coll epoch many w0 s e section owned p.at_epoch moves number p.part.0 p.part.1 at.1 at.0 at.2 p.part.2 field)
+      (targets.blank-field opening shape coll epoch many w0 s e.all section owned p.at_epoch moves number p.part.0 p.part.1 at.1 at.0 at.2 p.part.2 field)
   begin-goes s e aside within section owned (phase.Begin (begin.StoreBack moves number)) at_sec at_round at_call p = λ told.
-      let at = below shape s (shut e.whole) pass within (begin.StoreBack moves number) at_call in
+      let at = below shape s (shut e.all.whole) pass within (begin.StoreBack moves number) at_call in
       lift (apply (begin_offer epoch (begin.StoreBack moves number)).op s.memory) s.world section owned (begin.StoreBack moves number) (seen (begin_offer epoch (begin.StoreBack moves number)).op s.memory) p.in_world p.at_epoch
-      (targets.store-back opening shape coll epoch many w0 s e section owned p.at_epoch moves number p.part.0 p.part.1 at.1 at.0 at.2 p.part.2)
+      (targets.store-back opening shape coll epoch many w0 s e.all section owned p.at_epoch moves number p.part.0 p.part.1 at.1 at.0 at.2 p.part.2)
   begin-goes s e aside within section owned (phase.Begin (begin.StoreForward moves number)) at_sec at_round at_call p = λ told.
-      let at = below shape s (shut e.whole) pass within (begin.StoreForward moves number) at_call in
+      let at = below shape s (shut e.all.whole) pass within (begin.StoreForward moves number) at_call in
       lift (apply (begin_offer epoch (begin.StoreForward moves number)).op s.memory) s.world section owned (begin.StoreForward moves number) (seen (begin_offer epoch (begin.StoreForward moves number)).op s.memory) p.in_world p.at_epoch
-      (targets.store-forward opening shape coll epoch many w0 s e section owned p.at_epoch moves number p.part.0 p.part.1 at.1 at.0 at.2 p.part.2)
+      (targets.store-forward opening shape coll epoch many w0 s e.all section owned p.at_epoch moves number p.part.0 p.part.1 at.1 at.0 at.2 p.part.2)
   begin-goes s e aside within section owned (phase.Begin (begin.StoreIncoming moves number)) at_sec at_round at_call p = λ told.
-      let at = below shape s (shut e.whole) pass within (begin.StoreIncoming moves number) at_call in
+      let at = below shape s (shut e.all.whole) pass within (begin.StoreIncoming moves number) at_call in
       lift (apply (begin_offer epoch (begin.StoreIncoming moves number)).op s.memory) s.world section owned (begin.StoreIncoming moves number) (seen (begin_offer epoch (begin.StoreIncoming moves number)).op s.memory) p.in_world p.at_epoch
-      (targets.store-incoming opening shape coll epoch many w0 s e section owned p.at_epoch moves number p.part.0 p.part.1 at.1 at.0 at.2 p.part.2)
+      (targets.store-incoming opening shape coll epoch many w0 s e.all section owned p.at_epoch moves number p.part.0 p.part.1 at.1 at.0 at.2 p.part.2)
   begin-goes s e aside within section owned (phase.Begin (begin.Freeze moves number)) at_sec at_round at_call p = λ told.
-      let at = below shape s (shut e.whole) pass within (begin.Freeze moves number) at_call in
+      let at = below shape s (shut e.all.whole) pass within (begin.Freeze moves number) at_call in
       lift (apply (begin_offer epoch (begin.Freeze moves number)).op s.memory) s.world section owned (begin.Freeze moves number) (seen (begin_offer epoch (begin.Freeze moves number)).op s.memory) p.in_world p.at_epoch
-      (targets.freeze opening shape coll epoch many w0 s e section owned p.at_epoch moves number p.part.0 p.part.1 at.1 at.0 at.2 p.part.2)
+      (targets.freeze opening shape coll epoch many w0 s e.all section owned p.at_epoch moves number p.part.0 p.part.1 at.1 at.0 at.2 p.part.2)
   begin-goes s e aside within section owned next at_sec at_round at_call p = absurd p.part
 
-  pub begin-carries : Carries (Beginning shape coll epoch many w0) opening shape pass (call.Begin coll)
+  pub begin-carries : Carries (Beginning shape coll epoch many w0) (Known opening shape) shape pass (call.Begin coll)
   begin-carries = record { stable = begin-stable shape coll epoch many w0; idle = begin-idle shape coll epoch many w0; starts = begin-starts; goes = begin-goes }

@@ -32,10 +32,11 @@ use Rattle.smc_rules.specs.Calls.{copying_of}
 use Rattle.smc_rules.specs.Memory.{Memory, apply, seen}
 use Rattle.smc_rules.specs.Reads.{round_in, state_in, dir_in}
 use Rattle.smc_rules.specs.State as S
+use Rattle.smc_aside.proofs.Runs.{IsStable, IsKeptBy, Carries}
+use Rattle.smc_aside.proofs.Stillness.{Still}
+use Rattle.smc_aside.proofs.Waiting.{AfterChange}
 use Rattle.smc_laws.proofs.Everything.{Everything}
-use Rattle.smc_packing.proofs.Runs.{IsStable, IsKeptBy, Carries}
-use Rattle.smc_packing.proofs.Stillness.{Still}
-use Rattle.smc_packing.proofs.Waiting.{AfterChange}
+use Rattle.smc_packing.proofs.Known.{Known}
 
 -- each present object of the collection without a mark is in a kept slot
 abbrev pub AreLow : ℕ → ℕ → Memory → Type 0
@@ -92,7 +93,7 @@ module _ (coll kept : ℕ) (w0 : World) where
       go next k = absurd k
 
   module _ (opening : Opening) (shape : Layout) (pass : ℕ) where
-    finish-starts : IsKeptBy Finishing opening shape pass (Start call.Finish)
+    finish-starts : IsKeptBy Finishing (Known opening shape) shape pass (Start call.Finish)
     finish-starts s e aside within (Inside x calm) owned phase.Idle at_sec at_round at_call p = has (s.stands pass).round
       where
         early : (own : Owned) (b : Bool) (told : ℕ) → AfterChange Finishing (apply (if b then step 8 (Load (place.Section pass)) else finish_offer x (finish.Directory (first_target own.coll))).op s.memory) s.world (Inside x calm) owned
@@ -116,7 +117,7 @@ module _ (coll kept : ℕ) (w0 : World) where
         let incoming = (e.whole.agrees.copies.j_locked pass number.coll number.incarnation number.entry source (copy.Swing target) within is locked).1 in
         low target (subst (λ (c : ℕ). dir_in s.memory c target ≡ dir.Incoming) home (subst (λ (t : ℕ). dir_in s.memory number.coll t ≡ dir.Incoming) to incoming))
 
-    finish-goes : IsKeptBy Finishing opening shape pass Go
+    finish-goes : IsKeptBy Finishing (Known opening shape) shape pass Go
     finish-goes s e aside within section owned phase.Idle at_sec at_round at_call p = tt
     finish-goes s e aside within section owned (phase.Finish (finish.Directory targets)) at_sec at_round at_call p = λ told. record { low = p.low; targets = p.targets; in_world = p.in_world; part = tt }
     finish-goes s e aside within section owned (phase.Finish (finish.Back targets)) at_sec at_round at_call p = λ told. record { low = p.low; targets = p.targets; in_world = p.in_world; part = tt }
@@ -131,7 +132,7 @@ module _ (coll kept : ℕ) (w0 : World) where
     finish-goes s e aside within section owned (phase.Finish (finish.Move targets number source (copy.Load target field))) at_sec at_round at_call p = λ told. record { low = p.low; targets = p.targets; in_world = p.in_world; part = tt }
     finish-goes s e aside within section owned (phase.Finish (finish.Move targets number source (copy.Put target field value))) at_sec at_round at_call p = λ told. record { low = p.low; targets = p.targets; in_world = p.in_world; part = tt }
     finish-goes s e aside within section owned (phase.Finish (finish.Move targets number source (copy.Swing target))) at_sec at_round at_call p = λ told. record {
-      low = λ a f slot is. grind (arith, nat_tests, p.low a f slot, swings s e within targets number source target at_call p.targets);
+      low = λ a f slot is. grind (arith, nat_tests, p.low a f slot, swings s e.all within targets number source target at_call p.targets);
       targets = p.targets;
       in_world = p.in_world;
       part = tt;
@@ -157,5 +158,5 @@ module _ (coll kept : ℕ) (w0 : World) where
     finish-goes s e aside within section owned (phase.Finish (finish.End targets)) at_sec at_round at_call p = λ told. record { low = p.low; targets = p.targets; in_world = p.in_world; part = refl }
     finish-goes s e aside within section owned next at_sec at_round at_call p = absurd p.part
 
-    pub finish-carries : Carries Finishing opening shape pass call.Finish
+    pub finish-carries : Carries Finishing (Known opening shape) shape pass call.Finish
     finish-carries = record { stable = finish-stable; idle = finish-idle; starts = finish-starts; goes = finish-goes }

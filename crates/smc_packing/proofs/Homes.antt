@@ -18,13 +18,13 @@ use Rattle.smc_rules.specs.Reads.{back_in}
 use Rattle.smc_rules.specs.State as S
 use Rattle.smc_rules.specs.State.{Backs}
 use Rattle.smc_rules.proofs.ReadBack.{unpacked-packed}
+use Rattle.smc_aside.proofs.Stillness.{Still}
 use Rattle.smc_inv_range.proofs.Memories as ranges
 use Rattle.smc_laws.proofs.Everything.{Everything}
 use Rattle.smc_census.specs.Census.{owner_is_at, is_home, homes, occupied, blocks_of}
 use Rattle.smc_census.specs.Counts.{any_in_block, block_start}
 use Rattle.smc_census.proofs.CountLaws.{count_below-same, count_between-same}
 use Rattle.smc_census.proofs.Always.{slots-whole}
-use Rattle.smc_packing.proofs.Stillness.{Still}
 
 -- in both memories a slot of the collection has a present object, or in neither
 abbrev pub SameHomes : Layout → ℕ → Memory → Memory → Type 0

@@ -1,8 +1,4 @@
 pub mod Known
-pub mod Stillness
-pub mod Scenes
-pub mod Runs
-pub mod Waiting
 pub mod Rooms
 pub mod CountSteps
 pub mod Walks
@@ -11,7 +7,7 @@ pub mod Targets
 pub mod Begins
 pub mod Finishes
 pub mod Surveys
-pub mod Moments
+pub mod Waits
 pub mod Rests
 pub mod Homes
 pub mod Ends

@@ -7,27 +7,27 @@ use Rattle.smc_core.specs.declared.call.Call.TheVariants as call
 use Rattle.smc_core.specs.declared.done.Done.{Done}
 use Rattle.smc_core.specs.declared.done.Done.TheVariants as done
 use Rattle.smc_core.specs.declared.local.Opening.{Opening}
-use Rattle.smc_core.specs.declared.local.Stand.{Stand}
 use Rattle.smc_core.specs.Count.{blocks_for}
 use Rattle.smc_core.specs.Machine.{Machine, IsOpening, IsOpened, Reach}
 use Rattle.smc_rules.specs.State as S
-use Rattle.smc_aside.specs.Aside.{OthersAside}
+use Rattle.smc_aside.specs.Aside.{IsAlone}
+use Rattle.smc_aside.proofs.Moments.{IsMoment, IsFree, alone-free, Then, calls}
+use Rattle.smc_aside.proofs.Scenes.{aside-in}
+use Rattle.smc_aside.proofs.Sections.{Entered, now, enters}
 use Rattle.smc_census.specs.Census.{occupied}
-use Rattle.smc_packing.specs.Drive.{StandsIdle, Surveys}
+use Rattle.smc_packing.specs.Drive.{Surveys}
 use Rattle.smc_packing.specs.Packing.{DrivesPack, SurveysTell, SurveysTellPacked}
-use Rattle.smc_packing.proofs.Drives.{IsIdleMoment, now, HasDriven, drives}
+use Rattle.smc_packing.proofs.Drives.{IsIdleMoment, HasDriven, drives}
 use Rattle.smc_packing.proofs.Ends.{known-homes, said-of-logs}
 use Rattle.smc_packing.proofs.Homes.{same-occupied, still-homes}
-use Rattle.smc_packing.proofs.Known.{known-reached}
-use Rattle.smc_packing.proofs.Moments.{IsMoment, Then, calls, Entered, enters}
+use Rattle.smc_packing.proofs.Known.{Known, known-kept, known-reached}
 use Rattle.smc_packing.proofs.Rests.{homes-valid}
-use Rattle.smc_packing.proofs.Scenes.{aside-in}
 use Rattle.smc_packing.proofs.Surveys.{Surveying, survey-carries}
 
 module _ (opening : Opening) (shape : Layout) (valid : IsShape shape) (start : List ℕ) (pass : ℕ) (inside : pass < shape.passes) where
   -- a survey has told what there is
   record HasSurveyed (coll : ℕ) (answer : Done) (m last : Machine) (from : IsIdleMoment opening shape valid start pass inside m) : Type 0 where
-    moment : IsMoment opening shape start pass last
+    moment : IsMoment (Known opening shape) shape start pass last
     tells : answer ≡ done.Surveyed coll (count_of moment.scene.state.world coll) (occupied shape moment.scene.state.memory coll)
     counts : count_of moment.scene.state.world coll ≡ count_of from.moment.scene.state.world coll
     blocks : occupied shape moment.scene.state.memory coll ≡ occupied shape from.moment.scene.state.memory coll
@@ -35,16 +35,16 @@ module _ (opening : Opening) (shape : Layout) (valid : IsShape shape) (start : L
   surveys : (coll : ℕ) (answer : Done) (m last : Machine) (free : IsIdleMoment opening shape valid start pass inside m) → Surveys shape pass coll answer m last → HasSurveyed coll answer m last free
   surveys coll answer m last free d =
       let s0 : S.State = free.moment.scene.state in
-      let enter : Entered opening shape valid start pass s0.memory s0.world (s0.stands pass).round 0 d.inside = enters opening shape valid start pass s0.memory s0.world (s0.stands pass).round 0 m d.inside (done.At d.epoch) (now opening shape valid start pass inside m free.moment) (omega arith) d.enters in
-      let at : IsMoment opening shape start pass d.inside = enter.still.moment in
+      let enter : Entered (Known opening shape) shape start pass s0.memory s0.world (s0.stands pass).round 0 d.inside = enters (Known opening shape) shape valid (known-kept opening shape valid) start pass s0.memory s0.world (s0.stands pass).round 0 m d.inside (done.At d.epoch) (now (Known opening shape) shape start pass m free.moment) (omega arith) d.enters in
+      let at : IsMoment (Known opening shape) shape start pass d.inside = enter.still.moment in
       let s : S.State = at.scene.state in
       let none : (s.stands pass).round ≡ None = enter.still.same.round ∙ free.no_round in
-      let t : Then opening shape valid start pass (Surveying opening shape valid coll s0.memory s0.world pass) last answer =
-      calls opening shape valid start pass (Surveying opening shape valid coll s0.memory s0.world pass) (call.Survey coll) (survey-carries opening shape valid coll s0.memory s0.world pass) d.inside last answer at d.surveys
+      let t : Then (Known opening shape) shape start pass (Surveying opening shape valid coll s0.memory s0.world pass) last answer =
+      calls (Known opening shape) shape valid (known-kept opening shape valid) start pass (Surveying opening shape valid coll s0.memory s0.world pass) (call.Survey coll) (survey-carries opening shape valid coll s0.memory s0.world pass) d.inside last answer at d.surveys
       (record {
         still = enter.still.same.still;
         in_world = enter.still.same.in_world;
-        valid_homes = homes-valid opening shape s at.scene.rule pass (aside-in opening shape d.inside at.scene pass at.aside) at.idle none coll;
+        valid_homes = homes-valid opening shape s at.scene.rule pass (aside-in shape d.inside s pass at.scene.backs at.aside) at.idle none coll;
         part = tt;
       }) in
       let z : S.State = t.moment.scene.state in record {
@@ -60,41 +60,33 @@ record HasStoodIdle (opening : Opening) (shape : Layout) (valid : IsShape shape)
   free : IsIdleMoment opening shape valid start pass inside m
 
 first-idle : (opening : Opening) (shape : Layout) (valid : IsShape shape) (start : List ℕ) (pass : ℕ) (m : Machine) → IsOpening opening → IsOpened shape opening start → Reach shape start m.row m.locals
-    → StandsIdle pass m.locals → OthersAside pass m.locals → HasStoodIdle opening shape valid start pass m
-first-idle opening shape valid start pass m opens opened reached free aside =
+    → IsAlone pass m → HasStoodIdle opening shape valid start pass m
+first-idle opening shape valid start pass m opens opened reached alone =
     let b = known-reached opening shape valid start m.row m.locals opens opened reached in
-    let at : b.state.stands pass ≡ free.local.stand = b.backs.same pass free.local free.here in
+    let free : IsFree (Known opening shape) shape start pass m = alone-free shape start pass m reached alone b in
     let count : length m.locals ≡ shape.passes = b.backs.count in record {
-      inside = omega (arith, count, slice_get_within m.locals pass free.local free.here);
-      free = record {
-        moment = record {
-          reached = reached;
-          aside = aside;
-          scene = record { state = b.state; backs = b.backs; rule = b.rule };
-          idle = ap (λ (k : Stand). k.phase) at ∙ free.idle;
-        };
-        no_round = ap (λ (k : Stand). k.round) at ∙ free.no_round;
-      };
+      inside = omega (arith, count, slice_get_within m.locals pass alone.idle.local alone.idle.here);
+      free = record { moment = free.moment; no_round = free.no_round };
     }
 
 -- after a drive the objects are packed
 pub drives-pack : DrivesPack
-drives-pack shape opening start pass m valid opens opened reached free aside coll last drive =
-    let f : HasStoodIdle opening shape valid start pass m = first-idle opening shape valid start pass m opens opened reached free aside in
+drives-pack shape opening start pass m valid opens opened reached alone coll last drive =
+    let f : HasStoodIdle opening shape valid start pass m = first-idle opening shape valid start pass m opens opened reached alone in
     let d : HasDriven opening shape valid start pass f.inside coll last = drives opening shape valid start pass f.inside coll m last f.free drive in
     said-of-logs opening shape valid start last opens opened d.idle.moment.reached d.idle.moment.scene coll (λ (n blocks : ℕ). blocks ≡ blocks_for n) d.packed
 
 -- a survey tells what there is
 pub surveys-tell : SurveysTell
-surveys-tell shape opening start pass m valid opens opened reached free aside coll last answer survey =
-    let f : HasStoodIdle opening shape valid start pass m = first-idle opening shape valid start pass m opens opened reached free aside in
+surveys-tell shape opening start pass m valid opens opened reached alone coll last answer survey =
+    let f : HasStoodIdle opening shape valid start pass m = first-idle opening shape valid start pass m opens opened reached alone in
     let d : HasSurveyed opening shape valid start pass f.inside coll answer m last f.free = surveys opening shape valid start pass f.inside coll answer m last f.free survey in
     said-of-logs opening shape valid start last opens opened d.moment.reached d.moment.scene coll (λ (n blocks : ℕ). answer ≡ done.Surveyed coll n blocks) d.tells
 
 -- after a drive these are the fewest blocks
 pub surveys-tell-packed : SurveysTellPacked
-surveys-tell-packed shape opening start pass m valid opens opened reached free aside coll driven last answer drive survey =
-    let f : HasStoodIdle opening shape valid start pass m = first-idle opening shape valid start pass m opens opened reached free aside in
+surveys-tell-packed shape opening start pass m valid opens opened reached alone coll driven last answer drive survey =
+    let f : HasStoodIdle opening shape valid start pass m = first-idle opening shape valid start pass m opens opened reached alone in
     let d : HasDriven opening shape valid start pass f.inside coll driven = drives opening shape valid start pass f.inside coll m driven f.free drive in
     let t : HasSurveyed opening shape valid start pass f.inside coll answer driven last d.idle = surveys opening shape valid start pass f.inside coll answer driven last d.idle survey in
     let blocks : occupied shape t.moment.scene.state.memory coll ≡ blocks_for (count_of t.moment.scene.state.world coll) = t.blocks ∙ (d.packed ∙ ap blocks_for (sym t.counts)) in

@@ -18,19 +18,19 @@ use Rattle.smc_rules.specs.Memory.{Memory}
 use Rattle.smc_rules.specs.Reads.{epoch_of_region, round_in, state_in, state_for, dir_in, object}
 use Rattle.smc_rules.specs.State as S
 use Rattle.smc_rules.proofs.CarryLaws.{by_pass}
+use Rattle.smc_aside.specs.Aside.{IsResting}
+use Rattle.smc_aside.proofs.Scenes.{AsideIn}
+use Rattle.smc_aside.proofs.Stillness.{Still}
 use Rattle.smc_agreement.specs.Entries.{stands_at, IsRoundOf}
 use Rattle.smc_inv_use.specs.Rest.{IsAtRest, IsSlotAtRest, HasOneObject}
 use Rattle.smc_inv_use.proofs.RestLaws.{only_present, present_in_valid, slot_at_rest}
 use Rattle.smc_inv_use.proofs.Used.{Used}
-use Rattle.smc_aside.specs.Aside.{IsResting}
 use Rattle.smc_census.specs.Census.{is_home, homes}
 use Rattle.smc_census.proofs.HomeCounts.{slot-home, home-owner}
 use Rattle.smc_packing.proofs.CountSteps.{HomesAreValid}
 use Rattle.smc_packing.proofs.Finishes.{AreLow}
 use Rattle.smc_packing.proofs.Known.{Known}
 use Rattle.smc_packing.proofs.Rooms.{is_valid_in}
-use Rattle.smc_packing.proofs.Scenes.{AsideIn}
-use Rattle.smc_packing.proofs.Stillness.{Still}
 use Rattle.smc_packing.proofs.Walks.{IsRested}
 
 -- an object that is present in a slot stands there

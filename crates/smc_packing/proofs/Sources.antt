@@ -34,6 +34,7 @@ use Rattle.smc_core.specs.Words.{state_of, has_object}
 use Rattle.smc_rules.specs.Reads.{state_in, dir_in, back_in, object}
 use Rattle.smc_rules.specs.State as S
 use Rattle.smc_rules.proofs.CarryLaws.{some-same}
+use Rattle.smc_aside.proofs.Waiting.{AfterChange}
 use Rattle.smc_agreement.specs.Entries.{stands_at, present_at, IsPlaced}
 use Rattle.smc_agreement.proofs.CrossLaws.{back_home}
 use Rattle.smc_agreement.proofs.Whole.{shut}
@@ -45,7 +46,6 @@ use Rattle.smc_census.proofs.WalkLaws.{CountsBelow}
 use Rattle.smc_packing.proofs.CountSteps.{steps-directory, steps-back, steps-entry}
 use Rattle.smc_packing.proofs.Rooms.{is_valid_in, room-source, passed-next}
 use Rattle.smc_packing.proofs.Walks.{IsCounting, IsWalking, HasRoomFor, Beginning, to-source, to-target, after-count}
-use Rattle.smc_packing.proofs.Waiting.{AfterChange}
 
 -- an entry that is a source's says so
 source-word : (w : Word) (number : Number) (slot : ℕ) → is_source number slot (state_of w) ≡ true → w ≡ word.Entry (state.Present number.incarnation slot)

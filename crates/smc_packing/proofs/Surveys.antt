@@ -26,13 +26,14 @@ use Rattle.smc_core.specs.Count.{count_offer, counting, no_count, survey_change}
 use Rattle.smc_core.specs.Step.{when}
 use Rattle.smc_rules.specs.Memory.{Memory, apply, seen}
 use Rattle.smc_rules.specs.Reads.{back_in}
+use Rattle.smc_aside.proofs.Runs.{IsStable, IsKeptBy, Carries}
+use Rattle.smc_aside.proofs.Stillness.{Still, quiet-still}
+use Rattle.smc_aside.proofs.Waiting.{AfterChange}
 use Rattle.smc_census.specs.Census.{is_home, homes, occupied}
 use Rattle.smc_census.proofs.Always.{slots-whole}
 use Rattle.smc_census.proofs.WalkLaws.{CountsBelow, counts-none, counts-all}
 use Rattle.smc_packing.proofs.CountSteps.{HomesAreValid, steps-directory, steps-back, steps-entry}
-use Rattle.smc_packing.proofs.Runs.{IsStable, IsKeptBy, Carries}
-use Rattle.smc_packing.proofs.Stillness.{Still, quiet-still}
-use Rattle.smc_packing.proofs.Waiting.{AfterChange}
+use Rattle.smc_packing.proofs.Known.{Known}
 
 module _ (opening : Opening) (shape : Layout) (valid : IsShape shape) (coll : ℕ) (m0 : Memory) (w0 : World) (pass : ℕ) where
   -- a survey has counted the slots before this one
@@ -97,7 +98,7 @@ module _ (opening : Opening) (shape : Layout) (valid : IsShape shape) (coll : �
     survey-entry of slot count number k back = subst (λ (c : ℕ). After (counting shape (walk.Entry c slot count number) (memory (place.Entry number.coll number.entry)))) (sym k.of_it)
         (steps-entry shape memory coll homes_valid After walks ends slot count number k.within k.counted back)
 
-  survey-starts : IsKeptBy Surveying opening shape pass (Start (call.Survey coll))
+  survey-starts : IsKeptBy Surveying (Known opening shape) shape pass (Start (call.Survey coll))
   survey-starts s e aside within (Inside x calm) owned phase.Idle at_sec at_round at_call p = may (nat_lt coll (length shape.colls)) refl
     where
       may : (b : Bool) → nat_lt coll (length shape.colls) ≡ b → IfSome (when b (count_offer (walk.Directory coll 0 no_count))) (λ o. (told : ℕ)
@@ -108,12 +109,12 @@ module _ (opening : Opening) (shape : Layout) (valid : IsShape shape) (coll : �
   survey-starts s e aside within section owned phase.Idle at_sec at_round at_call p = tt
   survey-starts s e aside within section owned next at_sec at_round at_call p = tt
 
-  survey-goes : IsKeptBy Surveying opening shape pass Go
+  survey-goes : IsKeptBy Surveying (Known opening shape) shape pass Go
   survey-goes s e aside within section owned phase.Idle at_sec at_round at_call p = tt
   survey-goes s e aside within section owned (phase.Survey (walk.Directory of slot count)) at_sec at_round at_call p = λ told. survey-directory s.memory s.world section owned p.still p.in_world p.valid_homes of slot count p.part
   survey-goes s e aside within section owned (phase.Survey (walk.Back of slot count)) at_sec at_round at_call p = λ told. survey-back s.memory s.world section owned p.still p.in_world p.valid_homes of slot count p.part
   survey-goes s e aside within section owned (phase.Survey (walk.Entry of slot count number)) at_sec at_round at_call p = λ told. survey-entry s.memory s.world section owned p.still p.in_world p.valid_homes of slot count number p.part.0 p.part.1
   survey-goes s e aside within section owned next at_sec at_round at_call p = absurd p.part
 
-  pub survey-carries : Carries Surveying opening shape pass (call.Survey coll)
+  pub survey-carries : Carries Surveying (Known opening shape) shape pass (call.Survey coll)
   survey-carries = record { stable = survey-stable; idle = λ memory world section owned next answer p. p.part.0; starts = survey-starts; goes = survey-goes }

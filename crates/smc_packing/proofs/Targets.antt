@@ -33,12 +33,12 @@ use Rattle.smc_rules.specs.State as S
 use Rattle.smc_rules.proofs.CarryLaws.{some-same}
 use Rattle.smc_rules.proofs.MirrorLaws.{same_word-refl}
 use Rattle.smc_rules.proofs.PlaceLaws.{same_place-refl}
+use Rattle.smc_aside.proofs.Waiting.{AfterChange}
 use Rattle.smc_agreement.specs.Entries.{stands_at}
 use Rattle.smc_laws.proofs.Everything.{Everything}
 use Rattle.smc_census.proofs.CountLaws.{by_test}
 use Rattle.smc_packing.proofs.Rooms.{is_valid_in, dir-other, room-both, room-put, room-target, passed-next}
 use Rattle.smc_packing.proofs.Walks.{IsWalking, IsInHand, IsFilling, HasRoomFor, Beginning, BeginPart, to-source, to-target}
-use Rattle.smc_packing.proofs.Waiting.{AfterChange}
 
 -- a slot that may be claimed has a directory word, which does not say valid
 ripe-word : (epoch : ℕ) (w : Word) → is_ripe_slot epoch (dir_of w) ≡ true → w ≡ word.Directory (dir_of w)

@@ -30,6 +30,8 @@ use Rattle.smc_core.specs.Section.{epoch_of}
 use Rattle.smc_core.specs.Step.{goes}
 use Rattle.smc_rules.specs.Memory.{Memory, apply}
 use Rattle.smc_rules.specs.Reads.{round_in, state_in, dir_in, back_in}
+use Rattle.smc_aside.proofs.Runs.{IsStable}
+use Rattle.smc_aside.proofs.Waiting.{AfterChange}
 use Rattle.smc_census.specs.Census.{is_home, homes, occupied}
 use Rattle.smc_census.specs.Counts.{any_in_block, count_below}
 use Rattle.smc_census.proofs.CountLaws.{count_below-le, count_below-weaker}
@@ -38,8 +40,6 @@ use Rattle.smc_census.proofs.WalkLaws.{CountsBelow, counts-all}
 use Rattle.smc_packing.proofs.CountSteps.{HomesAreValid}
 use Rattle.smc_packing.proofs.Finishes.{AreLow, TargetsAreLow}
 use Rattle.smc_packing.proofs.Rooms.{is_valid_in, HasRoom, room-some, ArePassed}
-use Rattle.smc_packing.proofs.Runs.{IsStable}
-use Rattle.smc_packing.proofs.Waiting.{AfterChange}
 
 module _ (shape : Layout) (coll epoch many : ℕ) (w0 : World) where
   -- the slots that are kept

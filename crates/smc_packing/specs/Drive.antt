@@ -1,23 +1,12 @@
 -- A drive: a pass waits, packs one collection in a round of its own, and waits again before it finishes the round.
-use Rattle.std.specs.Prelude.{◌≡◌, ◌⊎◌, ℕ, ◌+◌, ◌≤◌, Option, Some, None, List, [], ◌∷◌, slice_get}
+use Rattle.std.specs.Prelude.{◌≡◌, ◌⊎◌, ℕ, ◌+◌, ◌≤◌, Option, Some, None, List, [], ◌∷◌}
 use Rattle.std.specs.Option.{option_or}
 use Rattle.smc_shape.specs.Layout.{Layout}
 use Rattle.smc_core.specs.declared.call.Call.TheVariants as call
 use Rattle.smc_core.specs.declared.done.Done.{Done}
 use Rattle.smc_core.specs.declared.done.Done.TheVariants as done
-use Rattle.smc_core.specs.declared.local.Local.{Local}
-use Rattle.smc_core.specs.declared.phase.Phase.TheVariants.{Idle}
-use Rattle.smc_core.specs.declared.section.Section.TheVariants.{Outside}
 use Rattle.smc_core.specs.Machine.{Machine}
 use Rattle.smc_aside.specs.Makes.{Makes}
-
--- the pass stands idle: in no call, outside sections, without a round
-pub record StandsIdle (pass : ℕ) (locals : List Local) : Type 0 where
-  pub local : Local
-  pub here : slice_get locals pass ≡ Some local
-  pub idle : local.stand.phase ≡ Idle
-  pub outside : local.stand.section ≡ Outside
-  pub no_round : local.stand.round ≡ None
 
 -- the epoch that the answer of an advance names, to which this pass or another one has moved on
 abbrev pub names : Done → Option ℕ

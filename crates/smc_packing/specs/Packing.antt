@@ -12,9 +12,9 @@ use Rattle.smc_rules.specs.Mirror.{anywhere}
 use Rattle.smc_rules.specs.SlotRule.{SlotRule}
 use Rattle.smc_rules.specs.State.{State, Backs}
 use Rattle.smc_refine.specs.Orders.{logs_of}
-use Rattle.smc_aside.specs.Aside.{OthersAside}
+use Rattle.smc_aside.specs.Aside.{IsAlone}
 use Rattle.smc_census.specs.Census.{occupied}
-use Rattle.smc_packing.specs.Drive.{StandsIdle, Drives, Surveys}
+use Rattle.smc_packing.specs.Drive.{Drives, Surveys}
 
 -- a state behind the machine, with the plain world of its logs, of which this holds
 pub record HasState (shape : Layout) (opening : Opening) (m : Machine) (holds : State → Type 0) : Type 0 where
@@ -28,11 +28,11 @@ pub record HasState (shape : Layout) (opening : Opening) (m : Machine) (holds : 
 abbrev pub IsPacked : Layout → ℕ → State → Type 0
 IsPacked shape coll s = occupied shape s.memory coll ≡ blocks_for (count_of s.world coll)
 
--- from each machine that steps lead to, while this pass stands idle and all others stand aside
+-- from each machine that steps lead to, where this pass is alone: it stands idle and all others stand aside
 abbrev pub FromEachIdle : (Layout → Opening → ℕ → Machine → Type 0) → Type 0
 FromEachIdle follows = (shape : Layout) (opening : Opening) (start : List ℕ) (pass : ℕ) (m : Machine)
     → IsShape shape → IsOpening opening → IsOpened shape opening start → Reach shape start m.row m.locals
-    → StandsIdle pass m.locals → OthersAside pass m.locals → follows shape opening pass m
+    → IsAlone pass m → follows shape opening pass m
 
 -- after an undisturbed drive the present objects of the collection are packed
 abbrev pub DrivesPack : Type 0

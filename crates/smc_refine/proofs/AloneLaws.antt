@@ -29,6 +29,7 @@ use Rattle.smc_core.specs.Row.{row_shows}
 use Rattle.smc_rules.proofs.CarryLaws.{by_pass, get-set_same, some-same}
 use Rattle.smc_aside.specs.Aside.{IsResting, StandsAside, OthersAside, IsAsideChoice, IsUndisturbed}
 use Rattle.smc_aside.proofs.AsideLaws.{others-aside}
+use Rattle.smc_aside.proofs.StepLists.{leads-join}
 use Rattle.smc_refine.specs.Alone.{AllIdle, Alone, AloneAnswerIsUndisturbed, AloneIsUndisturbed, IsApart, IsBetween, IsLeft, NextUndisturbed, StretchIsUndisturbed, TellsOf, answers_until, owns_after}
 use Rattle.smc_refine.specs.Orders.{logs_of}
 use Rattle.smc_refine.proofs.Onward.{Entered, Onward, entered-after, get-end, get-front, onward-after}
@@ -336,11 +337,6 @@ alone-undisturbed shape opening start pass since until m last later valid opens 
   next_ok shape opening start pass since until m last later valid opens opened between idle alone later refl,
 )
 
--- steps that follow steps
-Leads-join : (shape : Layout) (m between last : Machine) (earlier later : List (ℕ × Choice)) → Leads shape m earlier between → Leads shape between later last → Leads shape m (earlier ++ later) last
-Leads-join shape m between last [] later here leads = subst (λ (k : Machine). Leads shape k later last) (sym here) leads
-Leads-join shape m between last (first ∷ earlier) later here leads = (here.0, here.1, Leads-join shape here.0 between last earlier later here.2 leads)
-
 -- and so from one such moment to another
 module _ (shape : Layout) (opening : Opening) (start : List ℕ) (pass since until : ℕ) (to last : Machine) (later : List (ℕ × Choice))
     (valid : IsShape shape) (opens : IsOpening opening) (opened : IsOpened shape opening start) (end : IsBetween shape start pass since until to later last)
@@ -352,7 +348,7 @@ module _ (shape : Layout) (opening : Opening) (start : List ℕ) (pass since unt
       let whole : IsBetween shape start pass since until m ((by, choice) ∷ (during ++ later)) last = record {
         earlier = here.earlier;
         before = here.before;
-        after = (next, step, Leads-join shape next to last during later leads end.after);
+        after = (next, step, leads-join shape next to last during later leads end.after);
         has_first = here.has_first;
         lacks_last = here.lacks_last;
       } in
@@ -365,7 +361,7 @@ module _ (shape : Layout) (opening : Opening) (start : List ℕ) (pass since unt
         ((alone-undisturbed shape opening start pass since until m last ((by, choice) ∷ (during ++ later)) valid opens opened whole idle alone).1).0.0,
         stretch next during (record {
           earlier = here.earlier ++ (by, choice) ∷ [];
-          before = Leads-join shape (started shape start) m next here.earlier ((by, choice) ∷ []) here.before (next, step, refl);
+          before = leads-join shape (started shape start) m next here.earlier ((by, choice) ∷ []) here.before (next, step, refl);
           after = leads;
           has_first = omega (arith, long_now, low);
           lacks_last = omega (arith, long_then, high);
@@ -379,7 +375,7 @@ module _ (shape : Layout) (opening : Opening) (start : List ℕ) (pass since unt
       let aside : OthersAside pass m.locals = (alone-undisturbed shape opening start pass since until m last (during ++ later) valid opens opened (record {
         earlier = here.earlier;
         before = here.before;
-        after = Leads-join shape m to last during later here.after end.after;
+        after = leads-join shape m to last during later here.after end.after;
         has_first = here.has_first;
         lacks_last = here.lacks_last;
       }) idle alone).0 in

@@ -23,9 +23,9 @@ use Rattle.smc_core.specs.declared.word.Word.TheVariants as word
 use Rattle.smc_core.specs.Change.{change, section_seen, advance_next}
 use Rattle.smc_core.specs.Offer.{offer}
 use Rattle.smc_core.specs.Step.{goes, ends}
-use Rattle.smc_core.specs.Words.{plain_of, same_word}
+use Rattle.smc_core.specs.Words.{plain_of, dir_of, state_of, same_word}
 use Rattle.smc_rules.specs.Memory.{Memory, apply, put_word}
-use Rattle.smc_rules.specs.Reads.{epoch_of_region}
+use Rattle.smc_rules.specs.Reads.{epoch_of_region, state_in, dir_in}
 use Rattle.smc_rules.proofs.MirrorLaws.{same_word-eq}
 use Rattle.smc_aside.specs.Aside.{IsResting, IsAsideChoice}
 
@@ -38,6 +38,17 @@ is_still _ = true
 -- what such places said before they say after it
 abbrev pub Still : Memory → Memory → Type 0
 Still before after = (there : Place) → IsTrue (is_still there) → after there ≡ before there
+
+-- so they are after two such stretches
+pub still-trans : (first middle last : Memory) → Still first middle → Still middle last → Still first last
+still-trans first middle last one two there is = two there is ∙ one there is
+
+-- entries and directory words are such
+pub still-state : (before after : Memory) → Still before after → (c e : ℕ) → state_in after c e ≡ state_in before c e
+still-state before after still c e = ap state_of (still (place.Entry c e) refl)
+
+pub still-dir : (before after : Memory) → Still before after → (c slot : ℕ) → dir_in after c slot ≡ dir_in before c slot
+still-dir before after still c slot = ap dir_of (still (place.Directory c slot) refl)
 
 -- an operation of one that stands aside
 abbrev pub IsQuiet : Op → Type 0
