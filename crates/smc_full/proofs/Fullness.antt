@@ -22,13 +22,13 @@ use Rattle.smc_core.specs.Words.{state_of}
 use Rattle.smc_rules.specs.Memory.{Memory}
 use Rattle.smc_rules.specs.Reads.{state_in, dir_in}
 use Rattle.smc_rules.specs.State.{State}
+use Rattle.smc_aside.proofs.Stillness.{Still, still-state}
 use Rattle.smc_inv_range.specs.Ranges.{InWord, InState}
 use Rattle.smc_inv_use.specs.Rest.{IsAtRest, HasOneObject, IsEntryAtRest}
 use Rattle.smc_inv_use.proofs.RestLaws.{none_claimed, none_incoming, one_in_valid, one_object, entry_at_rest, present_in_valid, present_within}
 use Rattle.smc_inv_use.proofs.Used.{Used}
 use Rattle.smc_full.specs.Full.{IsFull, EachSlotHolds, NoneSpent}
 use Rattle.smc_full.proofs.Adds.{HasRipe, SameStates, Told, can_claim}
-use Rattle.smc_full.proofs.AsideWords.{SameWords}
 use Rattle.smc_full.proofs.WalkLaws.{apart_fewer}
 
 -- a collection that has a slot has as many entries as slots
@@ -41,61 +41,13 @@ room shape c slot valid lt = elim (cases_lt c (length shape.colls)) [
 -- an add is refused, or some slot could be claimed
 refused_or_ripe : (shape : Layout) (epoch : ℕ) (first : Memory) (coll : ℕ) (answer : Done) (memory : Memory) → Told shape epoch first coll answer memory → IsFull answer ⊎ HasRipe shape epoch first coll
 refused_or_ripe shape epoch first coll (done.Full _) memory told = inl tt
-refused_or_ripe shape epoch first coll (done.At _) memory told = inr told
-refused_or_ripe shape epoch first coll done.Out memory told = inr told
-refused_or_ripe shape epoch first coll (done.Advanced _) memory told = inr told
-refused_or_ripe shape epoch first coll (done.NotYet _ _) memory told = inr told
-refused_or_ripe shape epoch first coll (done.Overtaken _) memory told = inr told
-refused_or_ripe shape epoch first coll done.Spent memory told = inr told
-refused_or_ripe shape epoch first coll (done.Made _) memory told = inr told
-refused_or_ripe shape epoch first coll (done.Here _) memory told = inr told
-refused_or_ripe shape epoch first coll done.Null memory told = inr told
-refused_or_ripe shape epoch first coll (done.Value _) memory told = inr told
-refused_or_ripe shape epoch first coll done.Written memory told = inr told
-refused_or_ripe shape epoch first coll done.First memory told = inr told
-refused_or_ripe shape epoch first coll done.Late memory told = inr told
-refused_or_ripe shape epoch first coll done.Begun memory told = inr told
-refused_or_ripe shape epoch first coll (done.Visit _ _) memory told = inr told
-refused_or_ripe shape epoch first coll done.End memory told = inr told
-refused_or_ripe shape epoch first coll (done.Round _ _ _) memory told = inr told
-refused_or_ripe shape epoch first coll (done.Nothing _) memory told = inr told
-refused_or_ripe shape epoch first coll (done.Busy _ _ _) memory told = inr told
-refused_or_ripe shape epoch first coll (done.Finished _ _ _) memory told = inr told
-refused_or_ripe shape epoch first coll (done.Early _ _) memory told = inr told
-refused_or_ripe shape epoch first coll done.Cancelled memory told = inr told
-refused_or_ripe shape epoch first coll (done.Noted _) memory told = inr told
-refused_or_ripe shape epoch first coll done.Learned memory told = inr told
-refused_or_ripe shape epoch first coll (done.Surveyed _ _ _) memory told = inr told
+refused_or_ripe shape epoch first coll answer memory told = inr told
 
 -- an add that is refused leaves the entries what they were
 pub refused_same : (shape : Layout) (epoch : ℕ) (first : Memory) (coll : ℕ) (answer : Done) (memory : Memory) → Told shape epoch first coll answer memory → IsFull answer → SameStates first memory
-refused_same shape epoch first coll (done.Full Slots) memory told full = told.0.states
+refused_same shape epoch first coll (done.Full Slots) memory told full = still-state first memory told.0
 refused_same shape epoch first coll (done.Full Entries) memory told full = told.0
-refused_same shape epoch first coll (done.At _) memory told full = absurd full
-refused_same shape epoch first coll done.Out memory told full = absurd full
-refused_same shape epoch first coll (done.Advanced _) memory told full = absurd full
-refused_same shape epoch first coll (done.NotYet _ _) memory told full = absurd full
-refused_same shape epoch first coll (done.Overtaken _) memory told full = absurd full
-refused_same shape epoch first coll done.Spent memory told full = absurd full
-refused_same shape epoch first coll (done.Made _) memory told full = absurd full
-refused_same shape epoch first coll (done.Here _) memory told full = absurd full
-refused_same shape epoch first coll done.Null memory told full = absurd full
-refused_same shape epoch first coll (done.Value _) memory told full = absurd full
-refused_same shape epoch first coll done.Written memory told full = absurd full
-refused_same shape epoch first coll done.First memory told full = absurd full
-refused_same shape epoch first coll done.Late memory told full = absurd full
-refused_same shape epoch first coll done.Begun memory told full = absurd full
-refused_same shape epoch first coll (done.Visit _ _) memory told full = absurd full
-refused_same shape epoch first coll done.End memory told full = absurd full
-refused_same shape epoch first coll (done.Round _ _ _) memory told full = absurd full
-refused_same shape epoch first coll (done.Nothing _) memory told full = absurd full
-refused_same shape epoch first coll (done.Busy _ _ _) memory told full = absurd full
-refused_same shape epoch first coll (done.Finished _ _ _) memory told full = absurd full
-refused_same shape epoch first coll (done.Early _ _) memory told full = absurd full
-refused_same shape epoch first coll done.Cancelled memory told full = absurd full
-refused_same shape epoch first coll (done.Noted _) memory told full = absurd full
-refused_same shape epoch first coll done.Learned memory told full = absurd full
-refused_same shape epoch first coll (done.Surveyed _ _ _) memory told full = absurd full
+refused_same shape epoch first coll answer memory told full = absurd full
 
 module _ (opening : Opening) (shape : Layout) (valid : IsShape shape) (s : State) (k : Used opening shape s) (rest : IsAtRest shape s) (coll epoch : ℕ) where
   -- the slot of an object is valid
@@ -110,34 +62,10 @@ module _ (opening : Opening) (shape : Layout) (valid : IsShape shape) (s : State
   pub full-refused : EachSlotHolds shape s coll → (answer : Done) (memory : Memory) → Told shape epoch s.memory coll answer memory → IsFull answer
   full-refused each answer memory told = elim (refused_or_ripe shape epoch s.memory coll answer memory told) [ inl full ↦ full | inr ripe ↦ absurd (full-not_ripe each ripe) ]
 
-  pub full-same : EachSlotHolds shape s coll → (answer : Done) (memory : Memory) → Told shape epoch s.memory coll answer memory → IsFull answer → SameWords s.memory memory
+  pub full-same : EachSlotHolds shape s coll → (answer : Done) (memory : Memory) → Told shape epoch s.memory coll answer memory → IsFull answer → Still s.memory memory
   full-same each (done.Full Slots) memory told full = told.0
   full-same each (done.Full Entries) memory told full = absurd (full-not_ripe each told.1)
-  full-same each (done.At _) memory told full = absurd full
-  full-same each done.Out memory told full = absurd full
-  full-same each (done.Advanced _) memory told full = absurd full
-  full-same each (done.NotYet _ _) memory told full = absurd full
-  full-same each (done.Overtaken _) memory told full = absurd full
-  full-same each done.Spent memory told full = absurd full
-  full-same each (done.Made _) memory told full = absurd full
-  full-same each (done.Here _) memory told full = absurd full
-  full-same each done.Null memory told full = absurd full
-  full-same each (done.Value _) memory told full = absurd full
-  full-same each done.Written memory told full = absurd full
-  full-same each done.First memory told full = absurd full
-  full-same each done.Late memory told full = absurd full
-  full-same each done.Begun memory told full = absurd full
-  full-same each (done.Visit _ _) memory told full = absurd full
-  full-same each done.End memory told full = absurd full
-  full-same each (done.Round _ _ _) memory told full = absurd full
-  full-same each (done.Nothing _) memory told full = absurd full
-  full-same each (done.Busy _ _ _) memory told full = absurd full
-  full-same each (done.Finished _ _ _) memory told full = absurd full
-  full-same each (done.Early _ _) memory told full = absurd full
-  full-same each done.Cancelled memory told full = absurd full
-  full-same each (done.Noted _) memory told full = absurd full
-  full-same each done.Learned memory told full = absurd full
-  full-same each (done.Surveyed _ _ _) memory told full = absurd full
+  full-same each answer memory told full = absurd full
 
   module _ (old_slots : (slot stamp : ℕ) → dir_in s.memory coll slot ≡ dir.Limbo stamp → stamp + 2 ≤ epoch)
       (old_entries : (entry last stamp : ℕ) → state_in s.memory coll entry ≡ state.Free last stamp → stamp + 2 ≤ epoch) where
@@ -206,28 +134,4 @@ module _ (opening : Opening) (shape : Layout) (valid : IsShape shape) (s : State
     pub refused-full : NoneSpent shape s coll → (answer : Done) (memory : Memory) → Told shape epoch s.memory coll answer memory → IsFull answer → EachSlotHolds shape s coll
     refused-full unspent (done.Full Slots) memory told full slot lt = unripe-holds slot lt (told.1 slot lt)
     refused-full unspent (done.Full Entries) memory told full slot lt = absurd (entries_left unspent told.1 told.2)
-    refused-full unspent (done.At _) memory told full slot lt = absurd full
-    refused-full unspent done.Out memory told full slot lt = absurd full
-    refused-full unspent (done.Advanced _) memory told full slot lt = absurd full
-    refused-full unspent (done.NotYet _ _) memory told full slot lt = absurd full
-    refused-full unspent (done.Overtaken _) memory told full slot lt = absurd full
-    refused-full unspent done.Spent memory told full slot lt = absurd full
-    refused-full unspent (done.Made _) memory told full slot lt = absurd full
-    refused-full unspent (done.Here _) memory told full slot lt = absurd full
-    refused-full unspent done.Null memory told full slot lt = absurd full
-    refused-full unspent (done.Value _) memory told full slot lt = absurd full
-    refused-full unspent done.Written memory told full slot lt = absurd full
-    refused-full unspent done.First memory told full slot lt = absurd full
-    refused-full unspent done.Late memory told full slot lt = absurd full
-    refused-full unspent done.Begun memory told full slot lt = absurd full
-    refused-full unspent (done.Visit _ _) memory told full slot lt = absurd full
-    refused-full unspent done.End memory told full slot lt = absurd full
-    refused-full unspent (done.Round _ _ _) memory told full slot lt = absurd full
-    refused-full unspent (done.Nothing _) memory told full slot lt = absurd full
-    refused-full unspent (done.Busy _ _ _) memory told full slot lt = absurd full
-    refused-full unspent (done.Finished _ _ _) memory told full slot lt = absurd full
-    refused-full unspent (done.Early _ _) memory told full slot lt = absurd full
-    refused-full unspent done.Cancelled memory told full slot lt = absurd full
-    refused-full unspent (done.Noted _) memory told full slot lt = absurd full
-    refused-full unspent done.Learned memory told full slot lt = absurd full
-    refused-full unspent (done.Surveyed _ _ _) memory told full slot lt = absurd full
+    refused-full unspent answer memory told full slot lt = absurd full

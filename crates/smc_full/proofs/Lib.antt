@@ -1,7 +1,4 @@
-pub mod AsideWords
 pub mod WalkLaws
-pub mod Made
-pub mod Sections
 pub mod Adds
 pub mod Fullness
 pub mod Turns

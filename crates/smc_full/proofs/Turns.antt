@@ -1,146 +1,128 @@
--- Where calls leave a pass that works while the others stand aside: idle outside sections, or idle in one.
-use Rattle.std.proofs.Common.{◌≡◌, ℕ, ◌+◌, ◌<◌, ◌≤◌, Bool, Option, Some, None, refl, sym, ap, ◌∙◌, subst}
+-- Where calls leave a pass that works while the others stand aside: free outside sections, or idle in one.
+use Rattle.std.proofs.Common.{◌≡◌, ℕ, ◌+◌, ◌<◌, ◌≤◌, Bool, Option, Some, None, List, refl, sym, ap, ◌∙◌, subst}
 use Rattle.smc_words.specs.declared.round.RoundWord.{RoundWord}
 use Rattle.smc_shape.specs.Layout.{Layout, IsShape}
 use Rattle.smc_core.specs.declared.call.Call.TheVariants as call
 use Rattle.smc_core.specs.declared.done.Done.{Done}
-use Rattle.smc_core.specs.declared.local.Local.{Local}
 use Rattle.smc_core.specs.declared.local.Opening.{Opening}
-use Rattle.smc_core.specs.declared.local.Stand.{Stand}
-use Rattle.smc_core.specs.declared.phase.Phase.TheVariants as phase
+use Rattle.smc_core.specs.declared.local.Owned.{Owned}
 use Rattle.smc_core.specs.declared.section.Section.{Section}
-use Rattle.smc_core.specs.declared.section.Section.TheVariants.{Outside, Loaded, Announced, Again, Lasting, Inside}
+use Rattle.smc_core.specs.declared.section.Section.TheVariants.{Inside}
 use Rattle.smc_core.specs.Machine.{Machine}
-use Rattle.smc_rules.specs.Memory.{Memory}
+use Rattle.smc_core.specs.Section.{epoch_of}
 use Rattle.smc_rules.specs.Reads.{epoch_of_region, round_in}
 use Rattle.smc_rules.specs.State.{State}
 use Rattle.smc_rules.proofs.CarryLaws.{by_pass}
 use Rattle.smc_aside.specs.Aside.{IsResting}
 use Rattle.smc_aside.specs.Makes.{Makes}
+use Rattle.smc_aside.proofs.Moments.{IsMoment, IsFree, Then, calls}
+use Rattle.smc_aside.proofs.Scenes.{AsideIn, aside-in}
+use Rattle.smc_aside.proofs.Sections as sections
+use Rattle.smc_aside.proofs.Sections.{Left, Entered, SinceThen, now}
+use Rattle.smc_aside.proofs.Stillness.{Still}
+use Rattle.smc_aside.proofs.Waiting.{Advancing, advanced-out, advanced-on}
 use Rattle.smc_inv_use.specs.Rest.{IsAtRest}
-use Rattle.smc_full.specs.Full.{Calls, Advances}
-use Rattle.smc_full.proofs.Adds.{Told, Added, Adding, adds}
-use Rattle.smc_full.proofs.AsideWords.{SameWords}
-use Rattle.smc_full.proofs.Made.{At, Calm, calm, Left, made}
-use Rattle.smc_full.proofs.Sections.{Entering, Entered, enters, Leaving, Gone, leaves, Advancing, Advanced, advances}
+use Rattle.smc_inv_use.proofs.EpochsTold.{tells-epochs}
+use Rattle.smc_inv_use.proofs.Used.{Used, used-kept}
+use Rattle.smc_full.specs.Full.{Calls, AdvancesOnce}
+use Rattle.smc_full.proofs.Adds.{Told, Adding, add-carries}
 
--- a section that a pass has begun
-record IsInside (first : Memory) (section : Section) (memory : Memory) : Type 0 where
-  epoch : ℕ
-  calm : Bool
-  inside : section ≡ Inside epoch calm
-  same : SameWords first memory
-  from : epoch_of_region first ≤ epoch
+module _ (opening : Opening) (shape : Layout) (valid : IsShape shape) (start : List ℕ) (pass : ℕ) where
+  -- the pass stands free outside sections
+  abbrev pub IsOut : Machine → Type 0
+  IsOut m = IsFree (Used opening shape) shape start pass m
 
-inside-of : (first : Memory) (answer : Done) (section : Section) (memory : Memory) → Entered first answer section memory → IsInside first section memory
-inside-of first answer (Inside z calm) memory (same, low) = record { epoch = z; calm = calm; inside = refl; same = same; from = low }
-inside-of first answer Outside memory e = absurd e
-inside-of first answer (Loaded v) memory e = absurd e
-inside-of first answer (Announced v) memory e = absurd e
-inside-of first answer (Again v z) memory e = absurd e
-inside-of first answer (Lasting z) memory e = absurd e
-
-module _ (opening : Opening) (shape : Layout) (valid : IsShape shape) (pass : ℕ) where
-  -- the pass stands idle outside sections, without a round
-  pub record IsOut (m : Machine) : Type 0 where
-    pub local : Local
-    pub state : State
-    pub at : At opening shape valid pass m local state
-    pub outside : local.stand.section ≡ Outside
-    pub idle : local.stand.phase ≡ phase.Idle
-    pub no_round : local.stand.round ≡ None
-
-  -- or idle in a section at this epoch
+  -- or idle in a section at this epoch, without a round
   pub record IsIn (m : Machine) : Type 0 where
-    pub local : Local
-    pub state : State
-    pub at : At opening shape valid pass m local state
+    pub moment : IsMoment (Used opening shape) shape start pass m
     pub epoch : ℕ
     pub calm : Bool
-    pub inside : local.stand.section ≡ Inside epoch calm
-    pub idle : local.stand.phase ≡ phase.Idle
-    pub no_round : local.stand.round ≡ None
+    pub inside : (moment.scene.state.stands pass).section ≡ Inside epoch calm
+    pub no_round : (moment.scene.state.stands pass).round ≡ None
 
   -- it begins a section
   pub record Begins (m last : Machine) (out : IsOut m) : Type 0 where
     pub now : IsIn last
-    pub same : SameWords out.state.memory now.state.memory
-    pub from : epoch_of_region out.state.memory ≤ now.epoch
+    pub same : Still out.moment.scene.state.memory now.moment.scene.state.memory
+    pub from : epoch_of_region out.moment.scene.state.memory ≤ now.epoch
 
   pub begins : (m last : Machine) (out : IsOut m) → Calls shape pass call.Enter m last → Begins m last out
   begins m last out (answer, makes) =
-      let left : Left opening shape valid pass call.Enter Outside out.state.memory (Entering out.state.memory) (Entered out.state.memory) last answer =
-      made opening shape valid pass call.Enter Outside out.state.memory (Entering out.state.memory) (Entered out.state.memory) (enters opening shape valid pass out.state.memory)
-      m last answer out.local out.state out.at out.outside out.idle out.no_round refl makes in
-      let inside : IsInside out.state.memory left.local.stand.section left.state.memory = inside-of out.state.memory answer left.local.stand.section left.state.memory left.ended in record {
-        now = record { local = left.local; state = left.state; at = left.at; epoch = inside.epoch; calm = inside.calm; inside = inside.inside; idle = left.idle; no_round = left.no_round };
-        same = inside.same;
-        from = inside.from;
+      let s : State = out.moment.scene.state in
+      let at : SinceThen (Used opening shape) shape start pass out.moment m = now (Used opening shape) shape start pass m out.moment in
+      let e : Entered (Used opening shape) shape start pass s.memory s.world (s.stands pass).round (epoch_of_region s.memory) last =
+      sections.enters (Used opening shape) shape valid (used-kept opening shape valid) start pass s.memory s.world (s.stands pass).round (epoch_of_region s.memory) m last answer at at.same.epoch makes in record {
+        now = record { moment = e.still.moment; epoch = e.inside.0; calm = e.inside.1; inside = e.inside.2; no_round = e.still.same.round ∙ out.no_round };
+        same = e.still.same.still;
+        from = subst (λ (x : Section). epoch_of_region s.memory ≤ epoch_of x) e.inside.2 e.above;
       }
 
   -- it tries to add an object
   pub record Tries (coll : ℕ) (m last : Machine) (answer : Done) (in_it : IsIn m) : Type 0 where
     pub now : IsIn last
-    pub told : Told shape in_it.epoch in_it.state.memory coll answer now.state.memory
+    pub told : Told shape in_it.epoch in_it.moment.scene.state.memory coll answer now.moment.scene.state.memory
 
-  pub tries : (coll from : ℕ) (words : _) (m last : Machine) (answer : Done) (i : IsIn m) → Makes shape pass (call.Add coll from words) answer m last → Tries coll m last answer i
+  pub tries : (coll from : ℕ) (words : List ℕ) (m last : Machine) (answer : Done) (i : IsIn m) → Makes shape pass (call.Add coll from words) answer m last → Tries coll m last answer i
   tries coll from words m last answer i makes =
-      let left : Left opening shape valid pass (call.Add coll from words) (Inside i.epoch i.calm) i.state.memory (Adding shape i.epoch i.calm i.state.memory coll) (Added shape i.epoch i.calm i.state.memory coll) last answer =
-      made opening shape valid pass (call.Add coll from words) (Inside i.epoch i.calm) i.state.memory (Adding shape i.epoch i.calm i.state.memory coll) (Added shape i.epoch i.calm i.state.memory coll)
-      (adds opening shape valid pass i.state.memory coll from words i.epoch i.calm) m last answer i.local i.state i.at i.inside i.idle i.no_round refl makes in record {
-        now = record { local = left.local; state = left.state; at = left.at; epoch = i.epoch; calm = i.calm; inside = left.ended.0; idle = left.idle; no_round = left.no_round };
-        told = left.ended.1;
+      let s : State = i.moment.scene.state in
+      let t : Then (Used opening shape) shape start pass (Adding shape i.epoch i.calm s.memory coll) last answer =
+      calls (Used opening shape) shape valid (used-kept opening shape valid) start pass (Adding shape i.epoch i.calm s.memory coll) (call.Add coll from words)
+      (add-carries opening shape pass s.memory coll from words i.epoch i.calm) m last answer i.moment makes (record { inside = i.inside; no_round = i.no_round; part = λ there is. refl }) in record {
+        now = record { moment = t.moment; epoch = i.epoch; calm = i.calm; inside = t.says.inside; no_round = t.says.no_round };
+        told = t.says.part;
       }
 
   -- it ends its section
   pub record Ends (m last : Machine) (i : IsIn m) : Type 0 where
     pub now : IsOut last
-    pub same : SameWords i.state.memory now.state.memory
+    pub same : Still i.moment.scene.state.memory now.moment.scene.state.memory
 
   pub ends : (m last : Machine) (i : IsIn m) → Calls shape pass call.Leave m last → Ends m last i
   ends m last i (answer, makes) =
-      let left : Left opening shape valid pass call.Leave (Inside i.epoch i.calm) i.state.memory Leaving (Gone i.state.memory) last answer =
-      made opening shape valid pass call.Leave (Inside i.epoch i.calm) i.state.memory Leaving (Gone i.state.memory) (leaves opening shape valid pass i.state.memory i.epoch i.calm)
-      m last answer i.local i.state i.at i.inside i.idle i.no_round refl makes in record {
-        now = record { local = left.local; state = left.state; at = left.at; outside = left.ended.0; idle = left.idle; no_round = left.no_round };
-        same = left.ended.1;
+      let s : State = i.moment.scene.state in
+      let l : Left (Used opening shape) shape start pass s.memory s.world (s.stands pass).round last =
+      sections.leaves (Used opening shape) shape valid (used-kept opening shape valid) start pass s.memory s.world (s.stands pass).round m last answer (now (Used opening shape) shape start pass m i.moment) makes in record {
+        now = record { moment = l.still.moment; outside = l.outside; no_round = l.still.same.round ∙ i.no_round };
+        same = l.still.same.still;
       }
 
   -- it advances the epoch
   pub record MovesOn (m last : Machine) (out : IsOut m) : Type 0 where
     pub now : IsOut last
-    pub same : SameWords out.state.memory now.state.memory
-    pub higher : epoch_of_region out.state.memory + 1 ≤ epoch_of_region now.state.memory
+    pub same : Still out.moment.scene.state.memory now.moment.scene.state.memory
+    pub higher : epoch_of_region out.moment.scene.state.memory + 1 ≤ epoch_of_region now.moment.scene.state.memory
 
-  pub moves_on : (m last : Machine) (out : IsOut m) → Advances shape pass m last → MovesOn m last out
+  pub moves_on : (m last : Machine) (out : IsOut m) → AdvancesOnce shape pass m last → MovesOn m last out
   moves_on m last out (answer, unspent, makes) =
-      let left : Left opening shape valid pass call.Advance Outside out.state.memory (Advancing out.state.memory) (Advanced out.state.memory) last answer =
-      made opening shape valid pass call.Advance Outside out.state.memory (Advancing out.state.memory) (Advanced out.state.memory) (advances opening shape valid pass out.state.memory)
-      m last answer out.local out.state out.at out.outside out.idle out.no_round refl makes in record {
-        now = record { local = left.local; state = left.state; at = left.at; outside = left.ended.0; idle = left.idle; no_round = left.no_round };
-        same = left.ended.1;
-        higher = left.ended.2 unspent;
+      let s : State = out.moment.scene.state in
+      let r : Option Owned = (s.stands pass).round in
+      let t : Then (Used opening shape) shape start pass (Advancing s.memory s.world r) last answer =
+      sections.advances-once (Used opening shape) shape valid (used-kept opening shape valid) start pass s.memory s.world r (λ z u. tells-epochs opening shape z u.everything) answer m last
+      (now (Used opening shape) shape start pass m out.moment) makes in
+      let z : State = t.moment.scene.state in record {
+        now = record { moment = t.moment; outside = advanced-out s.memory s.world r z.memory (z.stands pass).section answer t.says.part; no_round = t.says.same.round ∙ out.no_round };
+        same = t.says.same.still;
+        higher = advanced-on s.memory s.world r z.memory (z.stands pass).section answer t.says.part unspent;
       }
 
   -- while it is idle the region is at rest
-  pub at_rest : (m : Machine) (i : IsIn m) → IsAtRest shape i.state
-  at_rest m i = record { resting = resting; no_round = go (round_in i.state.memory) refl }
+  pub at_rest : (m : Machine) (i : IsIn m) → IsAtRest shape i.moment.scene.state
+  at_rest m i = record { resting = resting; no_round = go (round_in s.memory) refl }
     where
-      c : Calm opening shape valid pass i.local.stand i.state
-      c = calm opening shape valid pass m i.local i.state i.at
+      s : State
+      s = i.moment.scene.state
 
-      resting : (other : ℕ) → other < shape.passes → IsResting (i.state.stands other).phase
-      resting other lt = by_pass other pass
-          (λ e. subst IsResting (sym (ap (λ (j : ℕ). (i.state.stands j).phase) e ∙ (ap (λ (l : Stand). l.phase) c.here ∙ i.idle))) tt)
-          (λ ne. (c.others other lt ne).resting)
+      aside : AsideIn shape pass s
+      aside = aside-in shape m s pass i.moment.scene.backs i.moment.aside
 
-      roundless : (other : ℕ) → other < shape.passes → (i.state.stands other).round ≡ None
-      roundless other lt = by_pass other pass
-          (λ e. ap (λ (j : ℕ). (i.state.stands j).round) e ∙ (ap (λ (l : Stand). l.round) c.here ∙ i.no_round))
-          (λ ne. (c.others other lt ne).no_round)
+      resting : (other : ℕ) → other < shape.passes → IsResting (s.stands other).phase
+      resting other lt = by_pass other pass (λ e. subst IsResting (sym (ap (λ (j : ℕ). (s.stands j).phase) e ∙ i.moment.idle)) tt) (λ ne. (aside other lt ne).resting)
 
-      go : (round : Option RoundWord) → round_in i.state.memory ≡ round → round_in i.state.memory ≡ None
+      roundless : (other : ℕ) → other < shape.passes → (s.stands other).round ≡ None
+      roundless other lt = by_pass other pass (λ e. ap (λ (j : ℕ). (s.stands j).round) e ∙ i.no_round) (λ ne. (aside other lt ne).no_round)
+
+      go : (round : Option RoundWord) → round_in s.memory ≡ round → round_in s.memory ≡ None
       go None e = e
       go (Some round) e =
-          let (lt, owns) = c.used.everything.whole.rounds.rule.names_owner.owner round e in
+          let (lt, owns) = i.moment.scene.rule.everything.whole.rounds.rule.names_owner.owner round e in
           absurd (let no : None ≡ Some _ = sym (roundless round.pass lt) ∙ owns in cc)

@@ -1,19 +1,15 @@
 -- A pass tries to add an object twice, and what it is that a collection is full.
-use Rattle.std.specs.Prelude.{◌≡◌, ◌≢◌, ℕ, ◌+◌, ◌<◌, Some, None, List, slice_get}
+use Rattle.std.specs.Prelude.{◌≡◌, ◌≢◌, ℕ, ◌+◌, ◌<◌, List}
 use Rattle.smc_words.specs.declared.layout.TheConstants.{INCARNATIONS}
 use Rattle.smc_shape.specs.Layout.{Layout, slots_of, entries_of}
 use Rattle.smc_core.specs.declared.call.Call.{Call}
 use Rattle.smc_core.specs.declared.call.Call.TheVariants as call
 use Rattle.smc_core.specs.declared.done.Done.{Done}
 use Rattle.smc_core.specs.declared.done.Done.TheVariants as done
-use Rattle.smc_core.specs.declared.local.Local.{Local}
-use Rattle.smc_core.specs.declared.phase.Phase.TheVariants as phase
-use Rattle.smc_core.specs.declared.section.Section.TheVariants.{Outside}
 use Rattle.smc_core.specs.declared.word.State.TheVariants as state
 use Rattle.smc_core.specs.Machine.{Machine}
 use Rattle.smc_rules.specs.Reads.{state_in}
 use Rattle.smc_rules.specs.State.{State}
-use Rattle.smc_aside.specs.Aside.{OthersAside}
 use Rattle.smc_aside.specs.Makes.{Makes}
 use Rattle.smc_inv_use.specs.Rest.{HasOneObject}
 
@@ -30,22 +26,13 @@ EachSlotHolds shape s coll = (slot : ℕ) → slot < slots_of shape coll → Has
 abbrev pub NoneSpent : Layout → State → ℕ → Type 0
 NoneSpent shape s coll = (entry last stamp : ℕ) → entry < entries_of shape coll → state_in s.memory coll entry ≡ state.Free last stamp → last + 1 ≢ INCARNATIONS
 
--- the pass stands idle outside sections, without a round, and the others stand aside
-pub record IsAlone (pass : ℕ) (m : Machine) : Type 0 where
-  pub local : Local
-  pub here : slice_get m.locals pass ≡ Some local
-  pub outside : local.stand.section ≡ Outside
-  pub idle : local.stand.phase ≡ phase.Idle
-  pub no_round : local.stand.round ≡ None
-  pub others : OthersAside pass m.locals
-
 -- the pass makes the call, whatever the answer
 abbrev pub Calls : Layout → ℕ → Call → Machine → Machine → Type 0
 Calls shape pass call m last = (answer : Done) × Makes shape pass call answer m last
 
 -- it advances the epoch, which is not the last one
-abbrev pub Advances : Layout → ℕ → Machine → Machine → Type 0
-Advances shape pass m last = (answer : Done) × (answer ≢ done.Spent) × Makes shape pass call.Advance answer m last
+abbrev pub AdvancesOnce : Layout → ℕ → Machine → Machine → Type 0
+AdvancesOnce shape pass m last = (answer : Done) × (answer ≢ done.Spent) × Makes shape pass call.Advance answer m last
 
 -- in a section it tries to add an object, and in a later one it tries again, with three advances between
 pub record TriesTwice (shape : Layout) (pass coll : ℕ) (m : Machine) (first second : Done) : Type 0 where
@@ -64,8 +51,8 @@ pub record TriesTwice (shape : Layout) (pass coll : ℕ) (m : Machine) (first se
   pub enters : Calls shape pass call.Enter m entered
   pub tries : Makes shape pass (call.Add coll from words) first entered tried
   pub leaves : Calls shape pass call.Leave tried left
-  pub advances : Advances shape pass left once
-  pub advances_again : Advances shape pass once twice
-  pub advances_at_last : Advances shape pass twice thrice
+  pub advances : AdvancesOnce shape pass left once
+  pub advances_again : AdvancesOnce shape pass once twice
+  pub advances_at_last : AdvancesOnce shape pass twice thrice
   pub enters_again : Calls shape pass call.Enter thrice again
   pub tries_again : Makes shape pass (call.Add coll later_from later_words) second again last

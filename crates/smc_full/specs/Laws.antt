@@ -6,8 +6,9 @@ use Rattle.smc_core.specs.declared.local.Opening.{Opening}
 use Rattle.smc_core.specs.Machine.{Machine, IsOpening, IsOpened, Reach}
 use Rattle.smc_rules.specs.Mirror.{anywhere}
 use Rattle.smc_rules.specs.State.{State, Backed}
+use Rattle.smc_aside.specs.Aside.{IsAlone}
 use Rattle.smc_laws.specs.Laws.{AllRules}
-use Rattle.smc_full.specs.Full.{IsAlone, TriesTwice, IsFull, EachSlotHolds, NoneSpent}
+use Rattle.smc_full.specs.Full.{TriesTwice, IsFull, EachSlotHolds, NoneSpent}
 
 -- a pass that is alone on a reachable machine tries to add an object twice
 pub record IsTriedTwice (shape : Layout) (opening : Opening) (pass coll : ℕ) (m : Machine) (first second : Done) : Type 0 where
