@@ -6,3 +6,4 @@ pub mod Runs
 pub mod Moments
 pub mod Waiting
 pub mod Sections
+pub mod WholeCalls
