@@ -13,3 +13,4 @@ pub mod Homes
 pub mod Ends
 pub mod Drives
 pub mod Packs
+pub mod WorkedDrives
