@@ -1,5 +1,5 @@
 -- A pass that plays whole calls, one after the other, makes each of them.
-use Rattle.std.proofs.Common.{◌≡◌, ℕ, zero, suc, Bool, true, false, Option, Some, None, List, [], ◌∷◌, ◌++◌, length, map, refl, sym, ap, ◌∙◌, inl}
+use Rattle.std.proofs.Common.{◌≡◌, ℕ, zero, suc, ◌<◌, Bool, true, false, Option, Some, None, List, [], ◌∷◌, ◌++◌, length, map, refl, sym, ap, ◌∙◌, subst, inl, arith}
 use Rattle.std.specs.Prelude.{◌↔◌, option_map, replicate, slice_get, if◌then◌else◌}
 use Rattle.std.proofs.lemmas.Bool.{eq-eqb}
 use Rattle.std.proofs.lemmas.Option.{none-some, same_Some}
@@ -12,10 +12,12 @@ use Rattle.smc_core.specs.declared.local.Answer.{Answer}
 use Rattle.smc_core.specs.declared.local.Local.{Local}
 use Rattle.smc_core.specs.declared.local.Owned.{Owned}
 use Rattle.smc_core.specs.declared.phase.Phase.{Phase}
+use Rattle.smc_core.specs.declared.phase.Phase.TheVariants as phase
 use Rattle.smc_core.specs.declared.section.Section.{Section}
-use Rattle.smc_core.specs.Machine.{Machine, Leads, Steps}
-use Rattle.smc_core.specs.Played.{Calls, MANY, after_line, ended_in, rests, step_of}
-use Rattle.smc_aside.specs.Aside.{IsUndisturbed}
+use Rattle.smc_core.specs.declared.section.Section.TheVariants.{Outside}
+use Rattle.smc_core.specs.Machine.{Machine, Leads, Reach, Steps}
+use Rattle.smc_core.specs.Played.{Calls, Schedule, MANY, after_line, ended_in, opening_row, played, rests, shape_of, step_of}
+use Rattle.smc_aside.specs.Aside.{IsAlone, IsResting, IsUndisturbed, StandsIdle}
 use Rattle.smc_aside.specs.Makes.{own_choices, HasAnswered, Makes}
 
 -- the pass makes these calls, one after the other, and they end with these answers
@@ -47,6 +49,10 @@ calls_of made = map (λ (one : Call × Done × ℕ). one.0) made
 -- the step that is computed is the one that a pass takes
 abbrev pub StepsAreComputed : Type 0
 StepsAreComputed = (shape : Layout) (m : Machine) (pass : ℕ) (choice : Choice) (next : Machine) → (step_of shape m pass choice ≡ Some next) ↔ Steps shape m pass choice next
+
+-- a schedule that is played leads to where steps reach
+abbrev pub SchedulesAreReached : Type 0
+SchedulesAreReached = (s : Schedule) (m : Machine) → played s ≡ Some m → Reach (shape_of s) (opening_row s) m.row m.locals
 
 module _ (computed : StepsAreComputed) (shape : Layout) (pass : ℕ) where
   taken : (m next : Machine) (choice : Choice) → step_of shape m pass choice ≡ Some next → Steps shape m pass choice next
@@ -180,3 +186,35 @@ each-place place zero (first ∷ later) same pass l here = absurd (cc)
 each-place place (suc count) [] same pass l here = absurd (cc)
 each-place place (suc count) (first ∷ later) same zero l here = cc
 each-place place (suc count) (first ∷ later) same (suc pass) l here = each-place place count later (cc) pass l here
+
+-- where a pass stands that is idle outside sections, without a round
+abbrev pub at_rest : Section × Phase × Option Owned
+at_rest = (Outside, phase.Idle, None)
+
+-- where all stand so, each stands idle
+rests-idle : (count pass : ℕ) (locals : List Local) → pass < count → map place_of locals ≡ replicate count at_rest → StandsIdle pass locals
+rests-idle zero pass locals lt same = absurd (omega (arith, lt))
+rests-idle (suc count) pass [] lt same = absurd (cc)
+rests-idle (suc count) zero (first ∷ later) lt same =
+    let is : place_of first ≡ at_rest = cc in record {
+      local = first;
+      here = refl;
+      idle = ap (λ (z : Section × Phase × Option Owned). z.1) is;
+      outside = ap (λ (z : Section × Phase × Option Owned). z.0) is;
+      no_round = ap (λ (z : Section × Phase × Option Owned). z.2) is;
+    }
+rests-idle (suc count) (suc pass) (first ∷ later) lt same =
+    let idle : StandsIdle pass later = rests-idle count pass later (omega (arith, lt)) (cc) in
+    record { local = idle.local; here = idle.here; idle = idle.idle; outside = idle.outside; no_round = idle.no_round }
+
+-- and each is alone
+pub rests-alone : (count pass : ℕ) (m : Machine) → pass < count → map place_of m.locals ≡ replicate count at_rest → IsAlone pass m
+rests-alone count pass m lt same = record {
+  idle = rests-idle count pass m.locals lt same;
+  others = λ other l apart here.
+      let is : place_of l ≡ at_rest = each-place at_rest count m.locals same other l here in record {
+        outside = ap (λ (z : Section × Phase × Option Owned). z.0) is;
+        resting = subst IsResting (sym (ap (λ (z : Section × Phase × Option Owned). z.1) is)) tt;
+        no_round = ap (λ (z : Section × Phase × Option Owned). z.2) is;
+      };
+}

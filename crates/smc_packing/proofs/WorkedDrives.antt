@@ -20,17 +20,12 @@ use Rattle.smc_core.specs.Played.{Schedule, opening_row, played, shape_of}
 use Rattle.smc_rules.proofs.CarryLaws.{some-same}
 use Rattle.smc_inv_epoch.specs.Epochs.{opening_of}
 use Rattle.smc_inv_epoch.proofs.Openings.{schedule-opened}
-use Rattle.smc_aside.specs.Aside.{IsResting, OthersAside}
 use Rattle.smc_aside.specs.Makes.{Makes}
-use Rattle.smc_aside.proofs.WholeCalls.{MakesEach, StepsAreComputed, calls_of, each-place, each_made, kept_along, kept_with, place_of, places_in}
-use Rattle.smc_packing.specs.Drive.{StandsIdle, Waits, WaitsAndBegins, FindsNothing, Moves, Drives}
+use Rattle.smc_aside.proofs.WholeCalls.{MakesEach, SchedulesAreReached, StepsAreComputed, at_rest, calls_of, each_made, kept_along, kept_with, place_of, places_in, rests-alone}
+use Rattle.smc_packing.specs.Drive.{Waits, WaitsAndBegins, FindsNothing, Moves, Drives}
 use Rattle.smc_packing.specs.Packing.{HasState, IsPacked}
 use Rattle.smc_packing.proofs.Packs.{drives-pack}
 use Rattle.smc_packing.specs.Worked.{in_one_block, in_two_blocks, PacksAfter}
-
--- a schedule that is played leads to where steps reach
-abbrev pub SchedulesAreReached : Type 0
-SchedulesAreReached = (s : Schedule) (m : Machine) → played s ≡ Some m → Reach (shape_of s) (opening_row s) m.row m.locals
 
 -- the answers to the calls of the two schedules
 abbrev adds_made : ℕ → List Answer
@@ -58,10 +53,6 @@ two_blocks-kept = refl
 one_block-kept : kept_along (shape_of in_one_block) 0 (calls_of resting) (played in_one_block) ≡ kept_with 4 (adds_made 1) resting
 unfolding at played
 one_block-kept = refl
-
--- where a pass stands that is idle outside sections, without a round
-abbrev at_rest : Section × Phase × Option Owned
-at_rest = (Outside, phase.Idle, None)
 
 two_blocks-places : places_in (played in_two_blocks) ≡ Some (at_rest ∷ at_rest ∷ [])
 unfolding at played
@@ -124,26 +115,6 @@ module _ (shape : Layout) (m : Machine) where
     leaves = subst (λ (k : Machine). Makes shape 0 call.Leave done.Out m5 k) here l6;
   }
 
--- where both passes stand idle, pass 0 is alone
-stands_idle : (locals : List Local) → map place_of locals ≡ at_rest ∷ at_rest ∷ [] → StandsIdle 0 locals
-stands_idle [] same = absurd (cc)
-stands_idle (first ∷ later) same =
-    let is : place_of first ≡ at_rest = each-place at_rest 2 (first ∷ later) same 0 first refl in record {
-      local = first;
-      here = refl;
-      idle = ap (λ (z : Section × Phase × Option Owned). z.1) is;
-      outside = ap (λ (z : Section × Phase × Option Owned). z.0) is;
-      no_round = ap (λ (z : Section × Phase × Option Owned). z.2) is;
-    }
-
-others_aside : (locals : List Local) → map place_of locals ≡ at_rest ∷ at_rest ∷ [] → OthersAside 0 locals
-others_aside locals same other l apart here =
-    let is : place_of l ≡ at_rest = each-place at_rest 2 locals same other l here in record {
-      outside = ap (λ (z : Section × Phase × Option Owned). z.0) is;
-      resting = subst IsResting (sym (ap (λ (z : Section × Phase × Option Owned). z.1) is)) tt;
-      no_round = ap (λ (z : Section × Phase × Option Owned). z.2) is;
-    }
-
 module _ (computed : StepsAreComputed) (reached : SchedulesAreReached) (s : Schedule) (valid : IsShape (shape_of s)) (opens : IsOpening (opening_of s))
     (Form : Layout → ℕ → ℕ → Machine → Machine → Type 0) (drives : (m last : Machine) → Form (shape_of s) 0 0 m last → Drives (shape_of s) 0 0 m last)
     (made : List (Call × Done × ℕ)) (so : (m last : Machine) → MakesEach (shape_of s) 0 made m last → Form (shape_of s) 0 0 m last) (long : ℕ) (before : List Answer) where
@@ -157,7 +128,7 @@ module _ (computed : StepsAreComputed) (reached : SchedulesAreReached) (s : Sche
       let form : Form (shape_of s) 0 0 m last = so m last each in
       let here : map place_of m.locals ≡ at_rest ∷ at_rest ∷ [] = some-same (map place_of m.locals) (at_rest ∷ at_rest ∷ []) places in
       (last, form, drives-pack (shape_of s) (opening_of s) (opening_row s) 0 m valid opens (schedule-opened s) (reached s m is)
-      (stands_idle m.locals here) (others_aside m.locals here) 0 last (drives m last form))
+      (rests-alone 2 0 m (omega arith) here) 0 last (drives m last form))
 
 pub two_blocks-pack : StepsAreComputed → SchedulesAreReached → PacksAfter Moves in_two_blocks
 two_blocks-pack computed reached =
