@@ -3,3 +3,4 @@ pub mod Adds
 pub mod Fullness
 pub mod Turns
 mod Tries
+mod WorkedTries

@@ -1,2 +1,3 @@
 pub mod Full
 pub mod Laws
+pub mod Worked
