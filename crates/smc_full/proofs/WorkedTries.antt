@@ -1,5 +1,5 @@
 -- Worked pairs of tries, computed call by call.
-use Rattle.std.proofs.Common.{◌≡◌, ◌≢◌, ℕ, zero, suc, ◌+◌, Option, Some, None, List, [], ◌∷◌, ◌++◌, map, refl, subst, arith}
+use Rattle.std.proofs.Common.{◌≡◌, ℕ, zero, suc, ◌+◌, Option, Some, None, List, [], ◌∷◌, map, refl, arith}
 use Rattle.std.specs.Prelude.{IsSomeAnd}
 use Rattle.smc_shape.specs.Layout.{Layout, IsShape, words_of}
 use Rattle.smc_shape.specs.Places.{at}
@@ -15,7 +15,6 @@ use Rattle.smc_core.specs.Played.{Schedule, opening_row, played, shape_of}
 use Rattle.smc_rules.proofs.CarryLaws.{some-same}
 use Rattle.smc_inv_epoch.specs.Epochs.{opening_of}
 use Rattle.smc_inv_epoch.proofs.Openings.{schedule-opened}
-use Rattle.smc_aside.specs.Makes.{Makes}
 use Rattle.smc_aside.proofs.WholeCalls.{MakesEach, SchedulesAreReached, StepsAreComputed, at_rest, calls_of, each_made, kept_along, kept_with, place_of, places_in, rests-alone}
 use Rattle.smc_full.specs.Full.{TriesTwice}
 use Rattle.smc_full.specs.Laws.{IsTriedTwice}

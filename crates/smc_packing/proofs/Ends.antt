@@ -32,9 +32,11 @@ said-of-logs opening shape valid start m opens opened reached scene coll Holds h
     sym (homes-objects opening shape b.state b.rule (home-reached (events_of b.order) b.state.world b.replay) coll)
     ∙ (same-homes shape valid coll scene.state.memory b.state.memory same ∙ known-homes opening shape scene.state scene.rule coll) in
     let blocks : occupied shape b.state.memory coll ≡ occupied shape scene.state.memory coll = same-occupied shape valid coll scene.state.memory b.state.memory same in record {
-      state = b.state;
-      backs = b.backs;
-      slots = slot_rule opening shape b.state b.rule;
-      lawful = record { order = b.order; one_order = b.one_order; replay = b.replay; scans_once = b.scans.once };
+      history = record {
+        state = b.state;
+        backs = b.backs;
+        slots = slot_rule opening shape b.state b.rule;
+        lawful = record { order = b.order; one_order = b.one_order; replay = b.replay; scans_once = b.scans.once };
+      };
       holds_of_it = subst (λ (n : ℕ). Holds n (occupied shape b.state.memory coll)) (sym count) (subst (λ (o : ℕ). Holds (count_of scene.state.world coll) o) (sym blocks) holds);
     }

@@ -1,5 +1,5 @@
 -- Worked drives, computed call by call.
-use Rattle.std.proofs.Common.{◌≡◌, ℕ, Option, Some, None, List, [], ◌∷◌, map, refl, sym, ap, subst, inl, inr, arith}
+use Rattle.std.proofs.Common.{◌≡◌, ℕ, Option, Some, None, List, [], ◌∷◌, map, refl, subst, inl, inr, arith}
 use Rattle.std.specs.Prelude.{IsSomeAnd}
 use Rattle.smc_shape.specs.Layout.{Layout, IsShape, words_of}
 use Rattle.smc_shape.specs.Places.{at}
@@ -9,20 +9,14 @@ use Rattle.smc_core.specs.declared.call.Call.TheVariants as call
 use Rattle.smc_core.specs.declared.done.Done.{Done}
 use Rattle.smc_core.specs.declared.done.Done.TheVariants as done
 use Rattle.smc_core.specs.declared.local.Answer.{Answer}
-use Rattle.smc_core.specs.declared.local.Local.{Local}
-use Rattle.smc_core.specs.declared.local.Owned.{Owned}
-use Rattle.smc_core.specs.declared.phase.Phase.{Phase}
-use Rattle.smc_core.specs.declared.phase.Phase.TheVariants as phase
-use Rattle.smc_core.specs.declared.section.Section.{Section}
-use Rattle.smc_core.specs.declared.section.Section.TheVariants.{Outside}
-use Rattle.smc_core.specs.Machine.{IsOpening, Machine, Reach}
+use Rattle.smc_core.specs.Machine.{IsOpening, Machine}
 use Rattle.smc_core.specs.Played.{Schedule, opening_row, played, shape_of}
 use Rattle.smc_rules.proofs.CarryLaws.{some-same}
 use Rattle.smc_inv_epoch.specs.Epochs.{opening_of}
 use Rattle.smc_inv_epoch.proofs.Openings.{schedule-opened}
 use Rattle.smc_aside.specs.Makes.{Makes}
 use Rattle.smc_aside.proofs.WholeCalls.{MakesEach, SchedulesAreReached, StepsAreComputed, at_rest, calls_of, each_made, kept_along, kept_with, place_of, places_in, rests-alone}
-use Rattle.smc_packing.specs.Drive.{Waits, WaitsAndBegins, FindsNothing, Moves, Drives}
+use Rattle.smc_packing.specs.Drive.{Waits, FindsNothing, Moves, Drives}
 use Rattle.smc_packing.specs.Packing.{HasState, IsPacked}
 use Rattle.smc_packing.proofs.Packs.{drives-pack}
 use Rattle.smc_packing.specs.Worked.{in_one_block, in_two_blocks, PacksAfter}
@@ -126,9 +120,12 @@ module _ (computed : StepsAreComputed) (reached : SchedulesAreReached) (s : Sche
   packs_from (Some m) is places kept =
       let (last, each) = each_made computed (shape_of s) 0 made long before m kept in
       let form : Form (shape_of s) 0 0 m last = so m last each in
-      let here : map place_of m.locals ≡ at_rest ∷ at_rest ∷ [] = some-same (map place_of m.locals) (at_rest ∷ at_rest ∷ []) places in
-      (last, form, drives-pack (shape_of s) (opening_of s) (opening_row s) 0 m valid opens (schedule-opened s) (reached s m is)
-      (rests-alone 2 0 m (omega arith) here) 0 last (drives m last form))
+      let here : map place_of m.locals ≡ at_rest ∷ at_rest ∷ [] = some-same (map place_of m.locals) (at_rest ∷ at_rest ∷ []) places in (
+        last,
+        form,
+        drives-pack (shape_of s) (opening_of s) (opening_row s) 0 m valid opens (schedule-opened s) (reached s m is)
+            (rests-alone 2 0 m (omega arith) here) 0 last (drives m last form),
+      )
 
 pub two_blocks-pack : StepsAreComputed → SchedulesAreReached → PacksAfter Moves in_two_blocks
 two_blocks-pack computed reached =

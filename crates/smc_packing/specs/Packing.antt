@@ -1,28 +1,22 @@
 -- What a drive leaves: the present objects of the collection stand in the fewest blocks.
 use Rattle.std.specs.Prelude.{◌≡◌, ℕ, List}
 use Rattle.smc_shape.specs.Layout.{Layout, IsShape}
-use Rattle.smc_model.specs.Order.{Lawful}
-use Rattle.smc_model.specs.World.{empty_world, count_of}
+use Rattle.smc_model.specs.World.{count_of}
 use Rattle.smc_core.specs.declared.done.Done.{Done}
 use Rattle.smc_core.specs.declared.done.Done.TheVariants as done
 use Rattle.smc_core.specs.declared.local.Opening.{Opening}
 use Rattle.smc_core.specs.Count.{blocks_for}
 use Rattle.smc_core.specs.Machine.{Machine, IsOpening, IsOpened, Reach}
-use Rattle.smc_rules.specs.Mirror.{anywhere}
-use Rattle.smc_rules.specs.SlotRule.{SlotRule}
-use Rattle.smc_rules.specs.State.{State, Backs}
-use Rattle.smc_refine.specs.Orders.{logs_of}
+use Rattle.smc_rules.specs.State.{State}
+use Rattle.smc_refine.specs.Orders.{HasHistory}
 use Rattle.smc_aside.specs.Aside.{IsAlone}
 use Rattle.smc_census.specs.Census.{occupied}
 use Rattle.smc_packing.specs.Drive.{Drives, Surveys}
 
 -- a state behind the machine, with the plain world of its logs, of which this holds
 pub record HasState (shape : Layout) (opening : Opening) (m : Machine) (holds : State → Type 0) : Type 0 where
-  pub state : State
-  pub backs : Backs shape anywhere m.row m.locals state
-  pub slots : SlotRule shape opening state
-  pub lawful : Lawful empty_world (logs_of m.locals) state.world
-  pub holds_of_it : holds state
+  pub history : HasHistory shape opening m.row m.locals
+  pub holds_of_it : holds history.state
 
 -- the present objects of the collection occupy the fewest blocks that have room for so many
 abbrev pub IsPacked : Layout → ℕ → State → Type 0

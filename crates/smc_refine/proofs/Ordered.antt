@@ -29,7 +29,7 @@ use Rattle.smc_rules.proofs.MirrorLaws.{mirrored}
 use Rattle.smc_inv_range.proofs.StepLaws.{suits_first}
 use Rattle.smc_laws.proofs.SlotLaws.{slot_rule}
 use Rattle.smc_laws.proofs.Everything.{Everything, everything-kept, everything-first}
-use Rattle.smc_refine.specs.Orders.{logs_of, LogsHaveOneOrder, LogsAreLawful}
+use Rattle.smc_refine.specs.Orders.{logs_of, LogsAreLawful}
 use Rattle.smc_refine.proofs.EventLaws.{allowed}
 use Rattle.smc_refine.proofs.HomeLaws.{home-reached}
 use Rattle.smc_refine.proofs.ScansKnown.{ScansKnown, scans_known-after, scans_known-first}
@@ -201,24 +201,11 @@ module _ (opening : Opening) (shape : Layout) (valid : IsShape shape) where
   }
 
 -- so it is in every state of Reach
-pub has_order : LogsHaveOneOrder
-has_order shape opening start row locals valid opens opened reached =
+pub has_history : LogsAreLawful
+has_history shape opening start row locals valid opens opened reached =
     let b = ordered_along opening shape valid (started shape start) reached.0 (record { row = row; locals = locals }) (ordered-first opening shape valid start opens opened) reached.1 in record {
       state = b.state;
       backs = b.backs;
       slots = slot_rule opening shape b.state b.rule;
-      order = b.order;
-      one_order = b.one_order;
-      replay = b.replay;
-      scans_once = b.scans.once;
-    }
-
--- as one fact on the logs
-pub has_history : LogsAreLawful
-has_history shape opening start row locals valid opens opened reached =
-    let b = has_order shape opening start row locals valid opens opened reached in record {
-      state = b.state;
-      backs = b.backs;
-      slots = b.slots;
-      lawful = record { order = b.order; one_order = b.one_order; replay = b.replay; scans_once = b.scans_once };
+      lawful = record { order = b.order; one_order = b.one_order; replay = b.replay; scans_once = b.scans.once };
     }

@@ -2,9 +2,8 @@
 use Rattle.std.specs.Prelude.{ℕ, List, map}
 use Rattle.smc_shape.specs.Layout.{Layout, IsShape}
 use Rattle.smc_model.specs.declared.event.Event.{Event}
-use Rattle.smc_model.specs.Order.{Lawful, OneOrder, events_of}
-use Rattle.smc_model.specs.Scans.{ScansOnce}
-use Rattle.smc_model.specs.World.{empty_world, Replay}
+use Rattle.smc_model.specs.Order.{Lawful}
+use Rattle.smc_model.specs.World.{empty_world}
 use Rattle.smc_core.specs.declared.local.Local.{Local}
 use Rattle.smc_core.specs.declared.local.Opening.{Opening}
 use Rattle.smc_core.specs.Machine.{IsOpening, IsOpened, Reach}
@@ -16,23 +15,6 @@ use Rattle.smc_rules.specs.SlotRule.{SlotRule}
 abbrev pub logs_of : List Local → List (List Event)
 logs_of locals = map (λ l. l.log) locals
 
--- the logs have one order, in which scans visit once; it replays from the empty world to the world of this state, which
--- stands behind the row
-pub record HasOrder (shape : Layout) (opening : Opening) (row : List ℕ) (locals : List Local) : Type 0 where
-  pub state : State
-  pub backs : Backs shape anywhere row locals state
-  pub slots : SlotRule shape opening state
-  pub order : List (ℕ × Event)
-  pub one_order : OneOrder (logs_of locals) order
-  pub replay : Replay empty_world (events_of order) state.world
-  pub scans_once : ScansOnce empty_world (events_of order)
-
--- so it is in every state that lists of steps lead to, from a region without objects
-abbrev pub LogsHaveOneOrder : Type 0
-LogsHaveOneOrder = (shape : Layout) (opening : Opening) (start row : List ℕ) (locals : List Local)
-    → IsShape shape → IsOpening opening → IsOpened shape opening start → Reach shape start row locals
-    → HasOrder shape opening row locals
-
 -- the logs are the history of the plain world of this state, which stands behind the row
 pub record HasHistory (shape : Layout) (opening : Opening) (row : List ℕ) (locals : List Local) : Type 0 where
   pub state : State
@@ -40,7 +22,7 @@ pub record HasHistory (shape : Layout) (opening : Opening) (row : List ℕ) (loc
   pub slots : SlotRule shape opening state
   pub lawful : Lawful empty_world (logs_of locals) state.world
 
--- the same, as one fact on the logs
+-- so it is in every state that lists of steps lead to, from a region without objects
 abbrev pub LogsAreLawful : Type 0
 LogsAreLawful = (shape : Layout) (opening : Opening) (start row : List ℕ) (locals : List Local)
     → IsShape shape → IsOpening opening → IsOpened shape opening start → Reach shape start row locals

@@ -1,16 +1,10 @@
 //! Each function is a theorem over the definitions in `specs`, and does nothing.
 ghost use Rattle.smc_refine.specs.Alone.{AloneIsUndisturbed, AloneAnswerIsUndisturbed, StretchIsUndisturbed};
 ghost use Rattle.smc_refine.specs.Worked.{cancels_its_round, enters_too_soon, keeps_its_round, told_too_soon, works_between, IsAloneAfter, IsNotAloneAfter};
-ghost use Rattle.smc_refine.specs.Orders.{LogsAreLawful, LogsHaveOneOrder};
+ghost use Rattle.smc_refine.specs.Orders.{LogsAreLawful};
 
-/// After every list of steps the logs of all passes have one order, in which scans visit once. It replays from the empty
-/// world to the world of the state that is reached.
-pub fn logs_have_one_order()
-    ensures { LogsHaveOneOrder }
-{}
-
-/// After every list of steps the logs of all passes are lawful: the history of a plain world, which is that of the state
-/// that is reached.
+/// After every list of steps the logs of all passes are lawful: they have one order, in which scans visit once, and which
+/// replays from the empty world to the world of the state that is reached.
 pub fn logs_are_lawful()
     ensures { LogsAreLawful }
 {}
