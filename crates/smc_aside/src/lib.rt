@@ -6,9 +6,11 @@
 //!
 //! In `proofs`, for any rule of states that each step keeps: `Runs` carries what each step of a call keeps to the call's
 //! answer, over `Scenes` (the states behind the steps) and `Stillness` (what steps of the others leave as it was);
-//! `Moments` puts calls one after the other; `Waiting` and `Sections` say what advances, enters and leaves keep. It stands
-//! on the machine and the rules; the crates above say what a pass can rely on meanwhile: that an add finds each slot that
-//! is free, that a round packs the objects.
+//! `Moments` puts calls one after the other; `Waiting` and `Sections` say what advances, enters and leaves keep.
+//! `WholeCalls` says that a pass which plays whole calls makes them; worked schedules rest on it.
+//!
+//! It stands on the machine and the rules; the crates above say what a pass can rely on meanwhile: that an add finds each
+//! slot that is free, that a round packs the objects.
 #![tactic(auto)]
 
 pub mod laws;
