@@ -18,61 +18,43 @@ fn copy_record(alloc: Global, words: &Record) -> Result<Record, NoMemory>
 fn copy_event(alloc: Global, event: &Event) -> Result<Event, NoMemory>
     ensures { IfOk result (λ copy. copy ≡ event.now) }
 {
-    Ok(match event {
+    Ok(match *event {
         Event::Add {
             number,
             coll,
-            words,
+            ref words,
         } => Event::Add {
-            number: *number,
-            coll: *coll,
+            number,
+            coll,
             words: copy_record(alloc, words)?,
         },
-        Event::Look { number, here } => Event::Look {
-            number: *number,
-            here: *here,
-        },
+        Event::Look { number, here } => Event::Look { number, here },
         Event::Read {
             number,
             field,
             value,
         } => Event::Read {
-            number: *number,
-            field: *field,
-            value: *value,
+            number,
+            field,
+            value,
         },
         Event::Write {
             number,
             field,
             value,
         } => Event::Write {
-            number: *number,
-            field: *field,
-            value: *value,
+            number,
+            field,
+            value,
         },
-        Event::Remove { number, first } => Event::Remove {
-            number: *number,
-            first: *first,
-        },
-        Event::Begin { scan, coll } => Event::Begin {
-            scan: *scan,
-            coll: *coll,
-        },
-        Event::Visit { scan, number } => Event::Visit {
-            scan: *scan,
-            number: *number,
-        },
-        Event::End { scan } => Event::End { scan: *scan },
+        Event::Remove { number, first } => Event::Remove { number, first },
+        Event::Begin { scan, coll } => Event::Begin { scan, coll },
+        Event::Visit { scan, number } => Event::Visit { scan, number },
+        Event::End { scan } => Event::End { scan },
         Event::Enter => Event::Enter,
         Event::Leave => Event::Leave,
-        Event::Told { pass, length } => Event::Told {
-            pass: *pass,
-            length: *length,
-        },
-        Event::Refused { coll, full } => Event::Refused {
-            coll: *coll,
-            full: *full,
-        },
+        Event::Told { pass, length } => Event::Told { pass, length },
+        Event::Refused { coll, full } => Event::Refused { coll, full },
     })
 }
 
