@@ -1,7 +1,7 @@
 ghost use Rattle.smc_lang.specs.Laws.{IsOneThing, IsSomething, PrintedIsRead};
 
 use smc_query::laws::{fronts_begin, one_tree, spelled_or_stopped};
-use smc_tokens::laws::one_list;
+use smc_tokens::laws::{one_list, some_list};
 
 /// A text of a form is read as one answer, or it is wrong or too deep at one place: no two of these hold of it.
 ///
@@ -18,6 +18,7 @@ pub fn one_thing()
 pub fn is_something()
     ensures { IsSomething }
 {
+    some_list();
     spelled_or_stopped();
 }
 

@@ -8,6 +8,8 @@ use Rattle.std.proofs.lemmas.List.Folds.{list_all-append}
 use Rattle.std.proofs.lemmas.Slice.Eq.{bytes_eq-Decides}
 use Rattle.smc_tokens.specs.Marks.{sign_text}
 use Rattle.smc_tokens.specs.Tokens.{space, quote, dash, point, token_of, signed, all_signs, is_name, is_name_byte, is_date, has_date_form, is_number, digits_of, behind_digits, are_digits, is_fraction, is_quoted, is_text_byte, ends_quoted}
+use Rattle.smc_tokens.proofs.AsciiLaws.{all_imply}
+use Rattle.smc_tokens.proofs.Finding.{find_none}
 use Rattle.smc_tokens.specs.declared.token.Token.{Token}
 use Rattle.smc_tokens.specs.declared.sign.Sign.{Sign}
 use Rattle.smc_tokens.specs.declared.sign.Sign.TheVariants.{Equal, Unequal, Less, LessEqual, Greater, GreaterEqual, Plus, Minus, Star, Open, Close, OpenBracket, CloseBracket, Comma, Dot}
@@ -15,11 +17,6 @@ use Rattle.smc_tokens.specs.declared.sign.Sign.TheVariants.{Equal, Unequal, Less
 -- a test that a space fails fails on a list with one
 space_fails : (p : ℕ → Bool) (bytes more : List ℕ) → p space ≡ false → list_all p (bytes ++ space ∷ more) ≡ false
 space_fails p bytes more fails = list_all-append p bytes (space ∷ more) ∙ and_right _ _ (and_left _ _ fails)
-
--- what passes one test passes another
-all_imply : (p q : ℕ → Bool) → ((x : ℕ) → p x ≡ true → q x ≡ true) → (xs : List ℕ) → list_all p xs ≡ true → list_all q xs ≡ true
-all_imply p q imply [] all = refl
-all_imply p q imply (x ∷ xs) all = let (here, more) = and_parts _ _ all in and_from _ _ (imply x here) (all_imply p q imply xs more)
 
 name_broken : (b : ℕ) (bs more : List ℕ) → is_name (b ∷ (bs ++ space ∷ more)) ≡ false
 name_broken b bs more = and_right _ _ (and_left _ _ (space_fails is_name_byte bs more refl))
@@ -140,11 +137,6 @@ unfolding plain
 sign_broken sign bytes more = false_from_ne_true _ (λ same.
     let is : sign_text sign ≡ bytes ++ space ∷ more = (bytes_eq-Decides (sign_text sign) (bytes ++ space ∷ more)).0 same in
     true≢false (sym (sign_plain sign) ∙ ap (list_all plain) is ∙ space_fails plain bytes more refl))
-
--- where none passes, none is found
-find_none : {A : Type 0} (p : A → Bool) (xs : List A) → ((x : A) → p x ≡ false) → find p xs ≡ None
-find_none p [] fails = refl
-find_none p (x ∷ xs) fails = rw (fails x) (find_none p xs fails)
 
 signs_broken : (bytes more : List ℕ) → find (λ sign. bytes_eq (sign_text sign) (bytes ++ space ∷ more)) all_signs ≡ None
 signs_broken bytes more = find_none (λ (sign : Sign). bytes_eq (sign_text sign) (bytes ++ space ∷ more)) all_signs (λ sign. sign_broken sign bytes more)
