@@ -6,3 +6,4 @@ mod CondLaws
 mod CallLaws
 mod TextLaws
 mod PlaceLaws
+mod OnceLaws

@@ -4,3 +4,4 @@ pub mod Calls
 pub mod Parts
 pub mod Texts
 pub mod Places
+pub mod Once
