@@ -3,8 +3,8 @@ ghost use Rattle.std.specs.Prelude.{ℕ, List, Option};
 ghost use Rattle.smc_query.specs.Trees.{CallTree, CondTree, ExprTree, ItemTree, KeyTree, PathTree};
 ghost use Rattle.smc_parse.specs.Once.{Once, PassedOnce};
 
-/// What is read of the tokens is one thing: one tree up to one place, or one fault, unless memory was wanted. So the
-/// contracts of the calls that read a part leave them one answer.
+/// What is read of the tokens is one thing: one tree up to one place, or one fault, unless memory was wanted. So it is for
+/// the parts that are listed; paths, sort keys one by one and the two halves of a query are not among them.
 pub fn read_once()
     ensures expr { Once ExprTree }
     ensures cond { Once CondTree }

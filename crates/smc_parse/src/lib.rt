@@ -7,7 +7,7 @@
 //! Callers may rely on this: the tree is the one that all tokens spell, or the fault stands at the first token of which no
 //! text goes on, or which opens too much. That is defined in `specs/Places.antt` by the grammar, and proved by what
 //! `specs/Machine.antt` of `smc_query` makes of the tokens: `specs/Reading.antt` says it of a part, `specs/Texts.antt` of all.
-//! `laws` shows that this leaves a call that reads a part one answer (`specs/Once.antt`).
+//! `laws` shows of most parts that this leaves the call that reads them one answer (`specs/Once.antt`).
 #![tactic(auto)]
 
 mod call;
