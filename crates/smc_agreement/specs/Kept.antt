@@ -4,8 +4,10 @@ use Rattle.smc_shape.specs.Layout.{Layout}
 use Rattle.smc_core.specs.declared.call.Choice.{Choice}
 use Rattle.smc_core.specs.declared.local.Opening.{Opening}
 use Rattle.smc_core.specs.declared.op.Offer.{Offer}
-use Rattle.smc_rules.specs.Memory.{seen}
-use Rattle.smc_rules.specs.State.{State, stand_offer, state_after, first_state}
+use Rattle.smc_model.specs.World.{World}
+use Rattle.smc_rules.specs.Memory.{Memory, seen}
+use Rattle.smc_rules.specs.Start.{IsAtStart, starting}
+use Rattle.smc_rules.specs.State.{State, stand_offer, state_after}
 use Rattle.smc_inv_epoch.specs.Rounds.{Rounds}
 use Rattle.smc_inv_range.specs.Calls.{Ranges}
 use Rattle.smc_agreement.specs.Agreement.{Agreement}
@@ -27,6 +29,7 @@ IsKept Beside Part = (shape : Layout) (s : State) (pass : ℕ) (choice : Choice)
 abbrev pub Nothing : Layout → State → Type 0
 Nothing shape s = ⊤
 
--- a region begins with it
+-- a region starts with it
 abbrev pub BeginsAgreed : Type 0
-BeginsAgreed = (shape : Layout) (opening : Opening) → Agreement shape (first_state shape opening) × RecordsAgree opening.incarnation shape (first_state shape opening)
+BeginsAgreed = (shape : Layout) (opening : Opening) (world : World) (memory : Memory) → IsAtStart shape opening world memory
+    → Agreement shape (starting shape memory world) × RecordsAgree opening.incarnation shape (starting shape memory world)

@@ -28,7 +28,7 @@ use Rattle.smc_inv_bound.proofs.StepLaws.{any_owners, go-falls}
 use Rattle.smc_aside.specs.Makes.{own_choices}
 use Rattle.smc_bounds.specs.Bounds.{CallsAreBounded, IsWithin, most_steps}
 use Rattle.smc_bounds.specs.Kept.{Enters, Kept}
-use Rattle.smc_bounds.proofs.KeptLaws.{kept-kept, kept-reached, owners_shown}
+use Rattle.smc_bounds.proofs.KeptLaws.{kept-kept, kept-then, owners_shown}
 use Rattle.smc_bounds.proofs.StartLaws.{by_width, started-fits}
 
 module _ (shape : Layout) (valid : IsShape shape) (pass : ℕ) where
@@ -186,7 +186,7 @@ module _ (shape : Layout) (valid : IsShape shape) (pass : ℕ) where
 
 -- in every state that steps reach
 pub calls-bounded : CallsAreBounded
-calls-bounded shape opening start m last steps pass more started first now valid opens opened reached leads own here there =
-    let b : Backed shape anywhere (Kept shape) m.row m.locals = kept-reached shape valid opening start m.row m.locals opens opened reached in
+calls-bounded shape opening world m last steps pass more started first now valid h leads own here there =
+    let b : Backed shape anywhere (Kept shape) m.row m.locals = kept-then shape valid opening world m h in
     within-bound shape valid pass last first now (most_steps shape first.stand started) (along shape anywhere valid (Kept shape) (kept-kept shape valid) m steps last b leads) there
     (begun shape valid pass m last steps more started first b leads own here)

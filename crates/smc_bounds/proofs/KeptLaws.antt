@@ -4,7 +4,6 @@ use Rattle.smc_shape.specs.Layout.{Layout, IsShape, width_of}
 use Rattle.smc_shape.specs.declared.place.Place.TheVariants as place
 use Rattle.smc_core.specs.declared.call.Choice.{Choice}
 use Rattle.smc_core.specs.declared.call.Choice.TheVariants.{Go}
-use Rattle.smc_core.specs.declared.local.Local.{Local}
 use Rattle.smc_core.specs.declared.local.Opening.{Opening}
 use Rattle.smc_core.specs.declared.local.Stand.{Stand}
 use Rattle.smc_core.specs.declared.op.Offer.{Offer}
@@ -14,20 +13,22 @@ use Rattle.smc_core.specs.declared.phase.moves.FinishPhase.TheVariants as finish
 use Rattle.smc_core.specs.declared.phase.objects.ScanPhase.TheVariants as scan
 use Rattle.smc_core.specs.declared.section.Section.{Section}
 use Rattle.smc_core.specs.declared.word.Word.{Word}
-use Rattle.smc_core.specs.Machine.{Machine, IsOpening, IsOpened, Reach, Steps}
+use Rattle.smc_core.specs.Machine.{Machine, Steps}
+use Rattle.smc_model.specs.World.{World}
+use Rattle.smc_rules.specs.History.{History}
 use Rattle.smc_core.specs.Offer.{go_offer}
 use Rattle.smc_core.specs.Row.{row_shows}
 use Rattle.smc_rules.specs.Memory.{Memory, seen}
 use Rattle.smc_rules.specs.Mirror.{IsMirrored, anywhere}
-use Rattle.smc_rules.specs.State.{Backed, IsKept, stand_offer, stand_then}
-use Rattle.smc_rules.proofs.CarryLaws.{by_pass, carried, put_stand-other, put_stand-same, some-same}
+use Rattle.smc_rules.specs.State.{State, Backed, IsKept, stand_offer, stand_then}
+use Rattle.smc_rules.proofs.CarryLaws.{by_pass, put_stand-other, put_stand-same, some-same}
 use Rattle.smc_rules.proofs.MirrorLaws.{mirrored}
 use Rattle.std.proofs.lemmas.Option.{slice_get_within}
 use Rattle.smc_inv_range.specs.Calls.{InPhase}
 use Rattle.smc_inv_range.specs.Ranges.{InMemory, InWord, IsNumberOf}
 use Rattle.smc_inv_range.proofs.Memories.{InBack, back_in}
-use Rattle.smc_inv_range.proofs.ReachLaws.{ranges_kept}
-use Rattle.smc_inv_range.proofs.StepLaws.{first_in, suits_first}
+use Rattle.smc_inv_range.proofs.ReachLaws.{ranges_kept, ranges_start}
+use Rattle.smc_rules.proofs.HistoryLaws.{behind_first, carried_then}
 use Rattle.smc_inv_bound.specs.Left.{CountsOwner, CountsOwners}
 use Rattle.smc_bounds.specs.Kept.{Kept, KeptBy}
 use Rattle.smc_bounds.proofs.EnterLaws.{step-enters}
@@ -56,11 +57,10 @@ module _ (shape : Layout) (valid : IsShape shape) where
     };
   }
 
-  pub kept-reached : (opening : Opening) (start row : List ℕ) (locals : List Local) → IsOpening opening → IsOpened shape opening start → Reach shape start row locals
-      → Backed shape anywhere (Kept shape) row locals
-  kept-reached opening start row locals opens opened reached =
-      carried shape anywhere valid (Kept shape) kept-kept opening start row locals (λ there u. suits_first shape valid opening opens there)
-      (record { ranges = first_in shape valid opening opens; each = λ i lt. record { enters = tt; home = tt; below = tt } }) opened reached
+  -- so it is behind every history
+  pub kept-then : (opening : Opening) (first : World) (m : Machine) (h : History shape opening first m) → Backed shape anywhere (Kept shape) m.row m.locals
+  kept-then opening first m h = carried_then shape anywhere valid (Kept shape) kept-kept opening first m h
+      (record { ranges = ranges_start shape opening first h.start valid h.starts; each = λ i lt. subst (λ (s : State). KeptBy i (s.stands i)) (behind_first shape opening first h.start) (record { enters = tt; home = tt; below = tt }) })
 
   -- an owner that a word of the region names is of the word's own collection
   home_counts : (coll slot : ℕ) (w : Word) → InWord shape (place.Back coll slot) w → CountsOwner (width_of shape) coll w

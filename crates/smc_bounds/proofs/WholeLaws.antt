@@ -24,7 +24,7 @@ use Rattle.smc_rules.proofs.CarryLaws.{some-same}
 use Rattle.smc_bounds.specs.Kept.{KeptBy}
 use Rattle.smc_bounds.specs.Scans.{ScansAreBounded, is_scan_step, one_step, steps_taken, stored_left, whole_left}
 use Rattle.smc_bounds.proofs.BoundLaws.{Known, known-step, left_alone, own_after}
-use Rattle.smc_bounds.proofs.KeptLaws.{kept-reached, owners_shown}
+use Rattle.smc_bounds.proofs.KeptLaws.{kept-then, owners_shown}
 use Rattle.smc_bounds.proofs.ScanLaws.{go-whole, start-whole}
 use Rattle.smc_bounds.proofs.ScanLists.{below-none, begun-same}
 
@@ -107,8 +107,8 @@ module _ (shape : Layout) (valid : IsShape shape) (pass k : ℕ) where
 
 -- from the step that begins a scan on
 pub scans-bounded : ScansAreBounded
-scans-bounded shape opening start m next last steps pass coll first now valid opens opened reached here step leads there =
-    let b = kept-reached shape valid opening start m.row m.locals opens opened reached in
+scans-bounded shape opening world m next last steps pass coll first now valid h here step leads there =
+    let b = kept-then shape valid opening world m h in
     let k : ℕ = scan_number pass first.stand.begun in
     let same : step.local ≡ first = some-same step.local first (sym step.here ∙ here) in
     let l : Local = after shape pass step.local (Start (call.Scan coll)) step.told (row_shows shape step.offered.op m.row) in

@@ -13,7 +13,9 @@ use Rattle.smc_core.specs.declared.local.Owned.{Owned}
 use Rattle.smc_core.specs.declared.local.Scan.{Scan}
 use Rattle.smc_core.specs.declared.local.Stand.{Stand}
 use Rattle.smc_core.specs.declared.phase.Phase.TheVariants.{Idle}
-use Rattle.smc_core.specs.Machine.{Machine, IsOpening, IsOpened, Leads, Reach, local_offer}
+use Rattle.smc_model.specs.World.{World}
+use Rattle.smc_rules.specs.History.{History}
+use Rattle.smc_core.specs.Machine.{Machine, Leads, local_offer}
 use Rattle.smc_core.specs.Row.{has_place}
 use Rattle.smc_core.specs.Scan.{scan_of}
 use Rattle.smc_aside.specs.Makes.{own_choices}
@@ -73,8 +75,8 @@ pub record IsWithin (shape : Layout) (pass : ℕ) (first now : Local) (most : �
 -- where a pass of a reachable state starts a call and goes on with it, it is within the call's bound after each list of
 -- steps, whatever the other passes do in between; so the call has ended where all of the bound is taken
 abbrev pub CallsAreBounded : Type 0
-CallsAreBounded = (shape : Layout) (opening : Opening) (start : List ℕ) (m last : Machine) (steps : List (ℕ × Choice)) (pass more : ℕ) (started : Call) (first now : Local)
-    → IsShape shape → IsOpening opening → IsOpened shape opening start → Reach shape start m.row m.locals
+CallsAreBounded = (shape : Layout) (opening : Opening) (world : World) (m last : Machine) (steps : List (ℕ × Choice)) (pass more : ℕ) (started : Call) (first now : Local)
+    → IsShape shape → History shape opening world m
     → Leads shape m steps last → own_choices pass steps ≡ Start started ∷ replicate more Go
     → slice_get m.locals pass ≡ Some first → slice_get last.locals pass ≡ Some now
     → IsWithin shape pass first now (most_steps shape first.stand started)

@@ -15,7 +15,9 @@ use Rattle.smc_core.specs.declared.phase.objects.Seeker.{Seeker}
 use Rattle.smc_core.specs.declared.phase.objects.Seeker.TheVariants as seeker
 use Rattle.smc_core.specs.declared.section.Section.{Section}
 use Rattle.smc_core.specs.Look.{seeker_of}
-use Rattle.smc_core.specs.Machine.{Machine, IsOpening, IsOpened, Leads, Reach, Steps}
+use Rattle.smc_model.specs.World.{World}
+use Rattle.smc_rules.specs.History.{History}
+use Rattle.smc_core.specs.Machine.{Machine, Leads, Steps}
 use Rattle.smc_core.specs.Scan.{scan_number, scan_of}
 use Rattle.smc_inv_bound.specs.Left.{steps_left}
 use Rattle.smc_bounds.specs.Bounds.{scan_steps}
@@ -67,8 +69,8 @@ steps_taken shape pass number m (first ∷ later) last leads =
 -- the step that begins a scan, the steps that it takes then, and those that it has left are so many at most, whatever
 -- other calls the section makes in between, and whatever the other passes do; where it has none left it has ended
 abbrev pub ScansAreBounded : Type 0
-ScansAreBounded = (shape : Layout) (opening : Opening) (start : List ℕ) (m next last : Machine) (steps : List (ℕ × Choice)) (pass coll : ℕ) (first now : Local)
-    → IsShape shape → IsOpening opening → IsOpened shape opening start → Reach shape start m.row m.locals
+ScansAreBounded = (shape : Layout) (opening : Opening) (world : World) (m next last : Machine) (steps : List (ℕ × Choice)) (pass coll : ℕ) (first now : Local)
+    → IsShape shape → History shape opening world m
     → slice_get m.locals pass ≡ Some first → Steps shape m pass (Start (call.Scan coll)) next
     → (leads : Leads shape next steps last) → slice_get last.locals pass ≡ Some now
     → 1 + steps_taken shape pass (scan_number pass first.stand.begun) next steps last leads

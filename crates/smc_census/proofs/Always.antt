@@ -8,8 +8,8 @@ use Rattle.smc_core.specs.declared.phase.moves.CountPhase.TheVariants as walk
 use Rattle.smc_core.specs.declared.phase.moves.Counting.{Counting}
 use Rattle.smc_core.specs.declared.phase.moves.Counting.TheVariants.{Walks, Counted}
 use Rattle.smc_core.specs.Count.{blocks_for, no_count}
+use Rattle.smc_rules.specs.History.{HoldsAlways, history_state}
 use Rattle.smc_rules.specs.State.{State}
-use Rattle.smc_laws.specs.Laws.{HoldsAlways}
 use Rattle.smc_census.specs.Census.{is_home, homes, blocks_of, occupied}
 use Rattle.smc_census.specs.Counts.{any_in_block}
 use Rattle.smc_census.specs.Laws.{HomesAreObjects, BlocksAreEnough, PackedIsEnough, WalksCountAll, HasCountedAll, counting_after}
@@ -17,24 +17,22 @@ use Rattle.smc_census.proofs.BlockLaws.{blocks-hold, blocks-least, blocks-most, 
 use Rattle.smc_census.proofs.CountLaws.{by_order, count_below-le}
 use Rattle.smc_census.proofs.HomeCounts.{homes-objects, homes-valid}
 use Rattle.smc_census.proofs.WalkSteps.{HasCounted, counts-whole}
-use Rattle.smc_census.proofs.MadeWorlds.{EverythingMade, everything_made-reached, made-home}
+use Rattle.smc_census.proofs.FitWorlds.{EverythingFits, everything_fits-then}
 
 -- what follows of a state for every shape holds always
-pub always_made : (Rule : Layout → Opening → State → Type 0)
-    → ((opening : Opening) (shape : Layout) (s : State) → IsShape shape → EverythingMade opening shape s → Rule shape opening s) → HoldsAlways Rule
-always_made Rule follows shape opening start row locals valid opens opened reached =
-    let b = everything_made-reached opening shape valid start row locals opens opened reached in
-    record { state = b.state; backs = b.backs; rule = follows opening shape b.state valid b.rule }
+pub always_fits : (Rule : Layout → Opening → State → Type 0)
+    → ((opening : Opening) (shape : Layout) (s : State) → IsShape shape → EverythingFits opening shape s → Rule shape opening s) → HoldsAlways Rule
+always_fits Rule follows shape opening first m valid h = follows opening shape (history_state h) valid (everything_fits-then opening shape valid first m h).rule
 
 -- the slots of a collection are whole blocks; past the last collection there are none
 pub slots-whole : (shape : Layout) (coll : ℕ) → IsShape shape → slots_of shape coll % BLOCK_SLOTS ≡ 0
 slots-whole shape coll valid = by_order coll (length shape.colls) (λ lt. (valid.coll coll lt).slots)
     (λ past. ap (λ (c : Collection). c.slots % BLOCK_SLOTS) (get_or_past shape.colls coll no_coll past))
 
-pub homes_objects : (opening : Opening) (shape : Layout) (s : State) → EverythingMade opening shape s → HomesAreObjects shape opening s
-homes_objects opening shape s h coll = homes-objects opening shape s h.rule (made-home s.world h.made) coll
+pub homes_objects : (opening : Opening) (shape : Layout) (s : State) → EverythingFits opening shape s → HomesAreObjects shape opening s
+homes_objects opening shape s h coll = homes-objects opening shape s h.rule h.fits.of_its_coll coll
 
-pub blocks_enough : (opening : Opening) (shape : Layout) (s : State) → IsShape shape → EverythingMade opening shape s → BlocksAreEnough shape opening s
+pub blocks_enough : (opening : Opening) (shape : Layout) (s : State) → IsShape shape → EverythingFits opening shape s → BlocksAreEnough shape opening s
 blocks_enough opening shape s valid h = record {
   enough = λ coll. omega (
     arith,
@@ -58,10 +56,10 @@ packed_enough shape memory coll valid packed = le_antisymm
     (blocks-most (is_home memory coll) (slots_of shape coll) (blocks_for (homes shape memory coll)) (slots-whole shape coll valid) packed)
     (blocks-least (is_home memory coll) (slots_of shape coll) (slots-whole shape coll valid))
 
-pub walks_count : (opening : Opening) (shape : Layout) (s : State) → IsShape shape → EverythingMade opening shape s → WalksCountAll shape opening s
+pub walks_count : (opening : Opening) (shape : Layout) (s : State) → IsShape shape → EverythingFits opening shape s → WalksCountAll shape opening s
 walks_count opening shape s valid h coll is_coll none =
     go (counting_after shape s.memory (3 * slots_of shape coll) (Walks (walk.Directory coll 0 no_count)))
-    (counts-whole shape s.memory coll (slots-whole shape coll valid) (valid.coll coll is_coll).some_slots (homes-valid opening shape s h.rule coll (λ slot lt has. none slot)))
+    (counts-whole shape s.memory coll (slots-whole shape coll valid) (valid.coll coll is_coll).some_slots (homes-valid opening shape s h.rule coll (λ slot lt has. none slot lt)))
   where
     go : (at : Counting) → HasCounted shape s.memory coll at → HasCountedAll shape s coll at
     go (Walks next) c = absurd c

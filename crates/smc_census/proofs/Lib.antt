@@ -5,5 +5,5 @@ pub mod WalkLaws
 pub mod WalkSteps
 pub mod PairLaws
 pub mod HomeCounts
-pub mod MadeWorlds
+pub mod FitWorlds
 pub mod Always

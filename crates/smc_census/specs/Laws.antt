@@ -45,5 +45,5 @@ HasCountedAll shape s coll (Counted own count) = (own ≡ coll) × (count.object
 
 -- so it has after three steps for each slot, where no slot of the collection is a target
 abbrev pub WalksCountAll : Layout → Opening → State → Type 0
-WalksCountAll shape opening s = (coll : ℕ) → coll < length shape.colls → ((slot : ℕ) → ¬ (IsIncoming s.memory coll slot))
+WalksCountAll shape opening s = (coll : ℕ) → coll < length shape.colls → ((slot : ℕ) → slot < slots_of shape coll → ¬ (IsIncoming s.memory coll slot))
     → HasCountedAll shape s coll (counting_after shape s.memory (3 * slots_of shape coll) (Walks (walk.Directory coll 0 no_count)))

@@ -1,6 +1,6 @@
 //! Each function is a theorem over the definitions in `specs`, and does nothing.
 ghost use Rattle.smc_census.specs.Laws.{BlocksAreEnough, HomesAreObjects, PackedIsEnough, WalksCountAll};
-ghost use Rattle.smc_laws.specs.Laws.{HoldsAlways};
+ghost use Rattle.smc_rules.specs.History.{HoldsAlways};
 
 /// As many slots of a collection have a present object as objects of it are present in the plain world.
 pub fn homes_are_objects()

@@ -17,3 +17,4 @@ pub mod Local
 pub mod Machine
 pub mod Played
 pub mod Schedules
+pub mod Told

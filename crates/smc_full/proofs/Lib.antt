@@ -4,3 +4,4 @@ pub mod Fullness
 pub mod Turns
 mod Tries
 mod WorkedTries
+pub mod SameState

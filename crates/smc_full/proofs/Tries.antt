@@ -7,6 +7,10 @@ use Rattle.smc_core.specs.declared.done.Done.{Done}
 use Rattle.smc_core.specs.declared.local.Opening.{Opening}
 use Rattle.smc_core.specs.declared.word.State.TheVariants as state
 use Rattle.smc_core.specs.Machine.{Machine}
+use Rattle.smc_model.specs.World.{World}
+use Rattle.smc_rules.specs.History.{History, history_state, history_world}
+use Rattle.smc_rules.proofs.HistoryLaws.{HoldsOf}
+use Rattle.smc_aside.proofs.Scenes.{Scene}
 use Rattle.smc_rules.specs.Memory.{Memory}
 use Rattle.smc_rules.specs.Reads.{state_in, dir_in}
 use Rattle.smc_rules.specs.State.{State}
@@ -15,11 +19,12 @@ use Rattle.smc_aside.proofs.Stillness.{Still, still-trans, still-state, still-di
 use Rattle.smc_laws.proofs.Always.{all_rules}
 use Rattle.smc_inv_use.specs.Rest.{HasOneObject}
 use Rattle.smc_inv_use.proofs.RestLaws.{one_in_valid, present_in_valid}
-use Rattle.smc_inv_use.proofs.Used.{used-reached}
+use Rattle.smc_inv_use.proofs.Used.{Used, used-then}
 use Rattle.smc_full.specs.Full.{IsFull, EachSlotHolds, NoneSpent, TriesTwice}
 use Rattle.smc_full.specs.Laws.{IsTriedTwice, Holds}
 use Rattle.smc_full.proofs.Adds.{SameStates, Told}
 use Rattle.smc_full.proofs.Fullness.{refused_same, holds_valid, full-refused, full-same, refused-full}
+use Rattle.smc_full.proofs.SameState.{same-holds, same-spent}
 use Rattle.smc_full.proofs.Turns.{IsOut, IsIn, begins, tries, ends, moves_on, at_rest}
 
 module _ (opening : Opening) (shape : Layout) (valid : IsShape shape) (start : List ℕ) (pass : ℕ) where
@@ -98,31 +103,41 @@ module _ (opening : Opening) (shape : Layout) (valid : IsShape shape) (start : L
             one_in_valid opening shape was t.before.moment.scene.rule (at_rest opening shape valid start pass entered t.before) coll slot lt
             (present_in_valid opening shape was t.before.moment.scene.rule (at_rest opening shape valid start pass entered t.before) coll now.entry now.incarnation slot (sym (same coll now.entry) ∙ now.here))
 
--- a pass that is alone on a reachable machine
-out-of : (opening : Opening) (shape : Layout) (pass coll : ℕ) (m : Machine) (first second : Done) (t : IsTriedTwice shape opening pass coll m first second) → IsOut opening shape t.valid t.start pass m
-out-of opening shape pass coll m _ _ t = alone-free shape t.start pass m t.reached t.alone (used-reached opening shape t.valid t.start m.row m.locals t.opens t.opened t.reached)
+-- the state of a history, with all that is known of it
+behind : (opening : Opening) (shape : Layout) (valid : IsShape shape) (world : World) (m : Machine) → History shape opening world m → Scene (Used opening shape) shape m
+behind opening shape valid world m h = let u = used-then opening shape valid world m h in record { state = history_state h; backs = u.backs; rule = u.rule }
 
-module _ (shape : Layout) (opening : Opening) (pass coll : ℕ) (m : Machine) (first second : Done) (t : IsTriedTwice shape opening pass coll m first second) where
-  both : Twice opening shape t.valid t.start pass coll first second t.tries.entered t.tries.again
-  both = twice opening shape t.valid t.start pass coll m first second (out-of opening shape pass coll m first second t) t.tries
+-- a pass that is alone behind a history
+out-of : (opening : Opening) (shape : Layout) (world : World) (pass coll : ℕ) (m : Machine) (first second : Done) (t : IsTriedTwice shape opening world pass coll m first second) → IsOut opening shape t.valid t.history.start pass m
+out-of opening shape world pass coll m _ _ t = alone-free shape t.history.start pass m (t.history.steps, t.history.leads) t.alone (behind opening shape t.valid world m t.history)
 
-  pub second_is_exact : Holds shape opening t.tries.again (λ s. NoneSpent shape s coll → IsFull second ↔ EachSlotHolds shape s coll)
-  second_is_exact = record {
-    state = both.after.moment.scene.state;
-    backs = both.after.moment.scene.backs;
-    rule = (all_rules opening shape both.after.moment.scene.state both.after.moment.scene.rule.everything, second-exact opening shape t.valid t.start pass coll first second t.tries.entered t.tries.again both);
-  }
+module _ (shape : Layout) (opening : Opening) (world : World) (pass coll : ℕ) (m : Machine) (first second : Done) (t : IsTriedTwice shape opening world pass coll m first second) where
+  both : Twice opening shape t.valid t.history.start pass coll first second t.tries.entered t.tries.again
+  both = twice opening shape t.valid t.history.start pass coll m first second (out-of opening shape world pass coll m first second t) t.tries
 
-  pub both_are_exact : Holds shape opening t.tries.entered (λ s. NoneSpent shape s coll → (IsFull first × IsFull second) ↔ EachSlotHolds shape s coll)
-  both_are_exact = record {
-    state = both.before.moment.scene.state;
-    backs = both.before.moment.scene.backs;
-    rule = (all_rules opening shape both.before.moment.scene.state both.before.moment.scene.rule.everything, both-exact opening shape t.valid t.start pass coll first second t.tries.entered t.tries.again both);
-  }
+  -- each state behind a machine holds what another one holds
+  module _ (n : Machine) (scene : Scene (Used opening shape) shape n) (h : History shape opening world n) where
+    its : HoldsOf shape opening (Used opening shape) n (history_world h)
+    its = used-then opening shape t.valid world n h
 
-  pub full_refuses_both : Holds shape opening t.tries.entered (λ s. EachSlotHolds shape s coll → IsFull first × IsFull second)
-  full_refuses_both = record {
-    state = both.before.moment.scene.state;
-    backs = both.before.moment.scene.backs;
-    rule = (all_rules opening shape both.before.moment.scene.state both.before.moment.scene.rule.everything, full-both opening shape t.valid t.start pass coll first second t.tries.entered t.tries.again both);
-  }
+    pub unspent_there : NoneSpent shape (history_state h) coll → NoneSpent shape scene.state coll
+    unspent_there = same-spent shape n scene.state (history_state h) scene.backs its.backs coll
+
+    pub each_there : EachSlotHolds shape (history_state h) coll → EachSlotHolds shape scene.state coll
+    each_there = same-holds shape n (history_state h) scene.state its.backs scene.backs coll opening (all_rules opening shape scene.state scene.rule.everything).slots
+
+    pub each_here : EachSlotHolds shape scene.state coll → EachSlotHolds shape (history_state h) coll
+    each_here = same-holds shape n scene.state (history_state h) scene.backs its.backs coll opening (all_rules opening shape (history_state h) its.rule.everything).slots
+
+  pub second_is_exact : Holds shape opening world t.tries.again (λ s. NoneSpent shape s coll → IsFull second ↔ EachSlotHolds shape s coll)
+  second_is_exact h unspent =
+      let exact = second-exact opening shape t.valid t.history.start pass coll first second t.tries.entered t.tries.again both (unspent_there t.tries.again both.after.moment.scene h unspent) in
+      (λ full. each_here t.tries.again both.after.moment.scene h (exact.0 full), λ each. exact.1 (each_there t.tries.again both.after.moment.scene h each))
+
+  pub both_are_exact : Holds shape opening world t.tries.entered (λ s. NoneSpent shape s coll → (IsFull first × IsFull second) ↔ EachSlotHolds shape s coll)
+  both_are_exact h unspent =
+      let exact = both-exact opening shape t.valid t.history.start pass coll first second t.tries.entered t.tries.again both (unspent_there t.tries.entered both.before.moment.scene h unspent) in
+      (λ full. each_here t.tries.entered both.before.moment.scene h (exact.0 full), λ each. exact.1 (each_there t.tries.entered both.before.moment.scene h each))
+
+  pub full_refuses_both : Holds shape opening world t.tries.entered (λ s. EachSlotHolds shape s coll → IsFull first × IsFull second)
+  full_refuses_both h each = full-both opening shape t.valid t.history.start pass coll first second t.tries.entered t.tries.again both (each_there t.tries.entered both.before.moment.scene h each)

@@ -11,10 +11,11 @@ use Rattle.smc_core.specs.declared.done.Done.{Done}
 use Rattle.smc_core.specs.declared.done.Done.TheVariants as done
 use Rattle.smc_core.specs.declared.local.Answer.{Answer}
 use Rattle.smc_core.specs.Machine.{IsOpening, Machine}
-use Rattle.smc_core.specs.Played.{Schedule, opening_row, played, shape_of}
+use Rattle.smc_model.specs.World.{empty_world}
+use Rattle.smc_core.specs.Played.{Schedule, played, shape_of}
 use Rattle.smc_rules.proofs.CarryLaws.{some-same}
 use Rattle.smc_inv_epoch.specs.Epochs.{opening_of}
-use Rattle.smc_inv_epoch.proofs.Openings.{schedule-opened}
+use Rattle.smc_inv_epoch.proofs.Openings.{schedule-history}
 use Rattle.smc_aside.proofs.WholeCalls.{MakesEach, SchedulesAreReached, StepsAreComputed, at_rest, calls_of, each_made, kept_along, kept_with, place_of, places_in, rests-alone}
 use Rattle.smc_full.specs.Full.{TriesTwice}
 use Rattle.smc_full.specs.Laws.{IsTriedTwice}
@@ -88,14 +89,11 @@ module _ (first second : Done) (long : ℕ) where
   module _ (computed : StepsAreComputed) (reached : SchedulesAreReached) (s : Schedule) (valid : IsShape (shape_of s)) (opens : IsOpening (opening_of s)) (before : List Answer) where
     tried_from : (found : Option Machine) → played s ≡ found → places_in found ≡ Some (at_rest ∷ at_rest ∷ [])
         → kept_along (shape_of s) 0 (calls_of (trying first second long)) found ≡ kept_with long before (trying first second long)
-        → IsSomeAnd found (λ m. IsTriedTwice (shape_of s) (opening_of s) 0 0 m first second)
+        → IsSomeAnd found (λ m. IsTriedTwice (shape_of s) (opening_of s) empty_world 0 0 m first second)
     tried_from None is places kept = absurd (cc)
     tried_from (Some m) is places kept = record {
       valid = valid;
-      opens = opens;
-      start = opening_row s;
-      opened = schedule-opened s;
-      reached = reached s m is;
+      history = schedule-history s opens m (reached s m is);
       alone = rests-alone 2 0 m (omega arith) (some-same (map place_of m.locals) (at_rest ∷ at_rest ∷ []) places);
       tries = tries_so (shape_of s) m (each_made computed (shape_of s) 0 (trying first second long) long before m kept).0 (each_made computed (shape_of s) 0 (trying first second long) long before m kept).1;
     }

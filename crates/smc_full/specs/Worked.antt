@@ -2,6 +2,7 @@
 use Rattle.std.specs.Prelude.{ℕ, zero, suc, ◌+◌, IsSomeAnd, List, [], ◌∷◌}
 use Rattle.smc_core.specs.declared.call.Call.TheVariants.{Add, Enter, Leave}
 use Rattle.smc_core.specs.declared.done.Done.{Done}
+use Rattle.smc_model.specs.World.{empty_world}
 use Rattle.smc_core.specs.Played.{Line, Calls, Schedule, played, shape_of}
 use Rattle.smc_inv_epoch.specs.Epochs.{opening_of}
 use Rattle.smc_full.specs.Laws.{IsTriedTwice}
@@ -21,4 +22,4 @@ without_room = record { passes = 2; width = 1; slots = 64; epoch = 5; incarnatio
 
 -- from where the schedule leads pass 0 tries twice, and its tries end with these answers
 abbrev pub TriedAfter : Done → Done → Schedule → Type 0
-TriedAfter first second s = IsSomeAnd (played s) (λ m. IsTriedTwice (shape_of s) (opening_of s) 0 0 m first second)
+TriedAfter first second s = IsSomeAnd (played s) (λ m. IsTriedTwice (shape_of s) (opening_of s) empty_world 0 0 m first second)

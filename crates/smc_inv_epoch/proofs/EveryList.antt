@@ -1,26 +1,27 @@
 -- The epoch rule holds after every list of steps.
-use Rattle.std.proofs.Common.{◌≡◌, ℕ, ◌<◌, true, Option, Some, None, List, refl, subst, arith}
-use Rattle.std.specs.Prelude.{IsTrue, IfSome, IsSomeAnd, is_some}
+use Rattle.std.proofs.Common.{◌≡◌, ℕ, ◌<◌, ◌≤◌, true, Option, Some, None, List, refl, sym, ap, subst}
+use Rattle.std.specs.Prelude.{IfSome, IsSomeAnd, is_some}
 use Rattle.smc_shape.specs.Layout.{Layout, IsShape}
-use Rattle.smc_shape.specs.declared.place.Place.{Place}
-use Rattle.smc_shape.specs.declared.place.Place.TheVariants as place
 use Rattle.smc_core.specs.declared.call.Choice.{Choice}
-use Rattle.smc_core.specs.declared.local.Local.{Local}
 use Rattle.smc_core.specs.declared.local.Opening.{Opening}
 use Rattle.smc_core.specs.declared.op.Offer.{Offer}
-use Rattle.smc_core.specs.Machine.{Machine, IsOpening, IsOpened, Reach, first_word}
+use Rattle.smc_core.specs.Machine.{Machine, IsOpening, Reach, started}
+use Rattle.smc_model.specs.World.{World, empty_world}
+use Rattle.smc_rules.specs.History.{History}
+use Rattle.smc_rules.specs.Start.{IsAtStart, IsStart, memory_behind, starting, state_behind}
+use Rattle.smc_rules.specs.Reads.{epoch_of_region}
+use Rattle.smc_core.specs.Words.{plain_of}
+use Rattle.smc_core.specs.declared.section.TheConstants.{FIRST_EPOCH, LAST_EPOCH}
 use Rattle.smc_core.specs.Played.{Schedule, shape_of, opening_row, played}
-use Rattle.smc_core.specs.Row.{Suits}
 use Rattle.smc_rules.specs.EpochRule.{EpochRule}
-use Rattle.smc_rules.specs.Memory.{apply}
-use Rattle.smc_rules.specs.State.{State, IsKept, Backed, stand_offer, stand_then, state_after, first_state}
-use Rattle.smc_rules.proofs.CarryLaws.{carried}
-use Rattle.smc_rules.proofs.FirstState.{epoch-first, epoch_agreement-first}
+use Rattle.smc_rules.specs.Memory.{Memory, apply}
+use Rattle.smc_rules.specs.State.{State, IsKept, Backed, stand_offer, stand_then, state_after}
+use Rattle.smc_rules.proofs.HistoryLaws.{at_first, carried_then}
 use Rattle.smc_inv_epoch.specs.Epochs.{Epochs, is_first, opening_of, HoldsAfter}
 use Rattle.smc_inv_epoch.proofs.EachKind.{pays}
 use Rattle.smc_inv_epoch.proofs.Moves.{kept}
 use Rattle.smc_inv_epoch.proofs.Pays.{Pays}
-use Rattle.smc_inv_epoch.proofs.Openings.{schedule-opened}
+use Rattle.smc_inv_epoch.proofs.Openings.{schedule-history}
 
 module _ (shape : Layout) (valid : IsShape shape) where
   -- what an offered step pays
@@ -40,27 +41,35 @@ module _ (shape : Layout) (valid : IsShape shape) where
         ((paid state pass choice offered within h offers).moves told w is);
   }
 
-  -- at first no pass is in a section, and none advances
-  pub epochs-first : (opening : Opening) → IsOpening opening → Epochs shape (first_state shape opening)
-  epochs-first opening o = record { rule = epoch-first shape opening o; agrees = epoch_agreement-first shape opening o }
+  -- at the start no pass is in a section, and none advances
+  pub epochs-starting : (opening : Opening) (world : World) (memory : Memory) → IsOpening opening → IsAtStart shape opening world memory → Epochs shape (starting shape memory world)
+  epochs-starting opening world memory o q =
+      let at : epoch_of_region memory ≡ opening.epoch = ap plain_of q.epoch in record {
+        rule = record {
+          first = subst (λ (e : ℕ). FIRST_EPOCH ≤ e) (sym at) o.first;
+          last = subst (λ (e : ℕ). e ≤ LAST_EPOCH) (sym at) o.last;
+          advance = λ pass from within is. cc;
+          loaded = λ pass seen within is. cc;
+          again = λ pass seen own within is. cc;
+          near = λ pass own within is. cc;
+          passed = λ pass own other from lp lo is at loaded. cc;
+        };
+        agrees = record {
+          own_word = λ pass within. ap plain_of (q.sections pass);
+          least_load = λ pass seen within is. cc;
+          least_own = λ pass own within is. cc;
+          low_advance = λ pass from within is. cc;
+          next_pass = λ pass from other within is. cc;
+        };
+      }
 
-  pub first-suits : (opening : Opening) → IsOpening opening → (there : Place) → IsTrue (is_first there) → Suits there (first_word opening there)
-  first-suits opening o place.Epoch u = let last = o.last in omega arith
-  first-suits opening o place.Round u = tt
-  first-suits opening o (place.Section pass) u = omega arith
-  first-suits opening o _ u = cc
+  pub epochs-starts : (opening : Opening) (first : World) (start : List ℕ) → IsStart shape opening first start → Epochs shape (state_behind shape opening (started shape start) first)
+  epochs-starts opening first start starts = (at_first shape opening (Epochs shape) first start starts (epochs-starting opening first (memory_behind shape opening start) starts.opens starts.at_rest)).rule
 
-  -- after every list of steps
-  pub epochs-reached : (opening : Opening) (start row : List ℕ) (locals : List Local) → IsOpening opening → IsOpened shape opening start
-      → Reach shape start row locals → Backed shape is_first (Epochs shape) row locals
-  epochs-reached opening start row locals o opened reached =
-      carried shape is_first valid (Epochs shape) epochs-kept opening start row locals (first-suits opening o) (epochs-first opening o) opened reached
-
-  -- the rule alone
-  pub rule-reached : (opening : Opening) (start row : List ℕ) (locals : List Local) → IsOpening opening → IsOpened shape opening start
-      → Reach shape start row locals → Backed shape is_first (EpochRule shape) row locals
-  rule-reached opening start row locals o opened reached =
-      let b = epochs-reached opening start row locals o opened reached in
+  -- and behind every history
+  pub rule-then : (opening : Opening) (first : World) (m : Machine) (h : History shape opening first m) → Backed shape is_first (EpochRule shape) m.row m.locals
+  rule-then opening first m h =
+      let b = carried_then shape is_first valid (Epochs shape) epochs-kept opening first m h (epochs-starts opening first h.start h.starts) in
       record { state = b.state; backs = b.backs; rule = b.rule.rule }
 
 -- a schedule that can be played leads to where the rule holds
@@ -70,4 +79,4 @@ rule-played reached s valid o some = go (played s) refl some
   where
     go : (m : Option Machine) → played s ≡ m → is_some m ≡ true → IsSomeAnd m (λ k. Backed (shape_of s) is_first (EpochRule (shape_of s)) k.row k.locals)
     go None e some = cc
-    go (Some m) e some = rule-reached (shape_of s) valid (opening_of s) (opening_row s) m.row m.locals o (schedule-opened s) (reached s m e)
+    go (Some m) e some = rule-then (shape_of s) valid (opening_of s) empty_world m (schedule-history s o m (reached s m e))

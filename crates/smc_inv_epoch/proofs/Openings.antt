@@ -10,7 +10,10 @@ use Rattle.smc_shape.specs.declared.place.Place.{Place}
 use Rattle.smc_shape.specs.declared.place.Place.TheVariants as place
 use Rattle.smc_core.specs.declared.word.State.TheVariants as state
 use Rattle.smc_core.specs.declared.word.Word.TheVariants as word
-use Rattle.smc_core.specs.Machine.{IsOpened, first_word}
+use Rattle.smc_model.specs.World.{empty_world}
+use Rattle.smc_rules.specs.History.{History}
+use Rattle.smc_rules.proofs.HistoryLaws.{new_starts}
+use Rattle.smc_core.specs.Machine.{Machine, IsOpening, IsOpened, Reach, first_word}
 use Rattle.smc_core.specs.Played.{Schedule, shape_of, opening_row}
 use Rattle.smc_core.specs.Row.{packed}
 use Rattle.smc_inv_epoch.specs.Epochs.{opening_of}
@@ -82,3 +85,8 @@ module _ (s : Schedule) where
   -- the row with which a schedule opens is that of a region without objects
   pub schedule-opened : IsOpened (shape_of s) (opening_of s) (opening_row s)
   schedule-opened = record { long = long; words = word_at }
+
+-- so a machine to which it can be played has a history, from the empty world
+pub schedule-history : (s : Schedule) → IsOpening (opening_of s) → (m : Machine) → Reach (shape_of s) (opening_row s) m.row m.locals → History (shape_of s) (opening_of s) empty_world m
+schedule-history s opens m reached =
+    record { start = opening_row s; starts = new_starts (shape_of s) (opening_of s) (opening_row s) opens (schedule-opened s); steps = reached.0; leads = reached.1 }

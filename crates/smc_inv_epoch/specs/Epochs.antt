@@ -1,11 +1,12 @@
 -- What each step keeps, and what it comes to.
-use Rattle.std.specs.Prelude.{ℕ, Bool, true, false, IsSomeAnd, List}
+use Rattle.std.specs.Prelude.{Bool, true, false, IsSomeAnd}
 use Rattle.smc_shape.specs.Layout.{Layout, IsShape}
 use Rattle.smc_shape.specs.declared.place.Place.{Place}
 use Rattle.smc_shape.specs.declared.place.Place.TheVariants as place
-use Rattle.smc_core.specs.declared.local.Local.{Local}
 use Rattle.smc_core.specs.declared.local.Opening.{Opening}
-use Rattle.smc_core.specs.Machine.{IsOpening, IsOpened, Reach}
+use Rattle.smc_core.specs.Machine.{Machine}
+use Rattle.smc_model.specs.World.{World}
+use Rattle.smc_rules.specs.History.{History}
 use Rattle.smc_core.specs.Played.{Schedule, shape_of, played}
 use Rattle.smc_rules.specs.EpochAgreement.{EpochAgreement}
 use Rattle.smc_rules.specs.EpochRule.{EpochRule}
@@ -35,9 +36,8 @@ opening_of s = record { epoch = s.epoch; incarnation = s.incarnation }
 abbrev pub HoldsAfter : Schedule → Type 0
 HoldsAfter s = IsSomeAnd (played s) (λ m. Backed (shape_of s) is_first (EpochRule (shape_of s)) m.row m.locals)
 
--- behind every row and all local states that steps lead to from a region without objects stands a state that has the
--- epoch rule; the row mirrors its epoch, its round and its section words
+-- behind the machine of every history stands a state that has the epoch rule; the row mirrors its epoch, its round and
+-- its section words
 abbrev pub EpochRuleHolds : Type 0
-EpochRuleHolds = (shape : Layout) (opening : Opening) (start row : List ℕ) (locals : List Local)
-    → IsShape shape → IsOpening opening → IsOpened shape opening start → Reach shape start row locals
-    → Backed shape is_first (EpochRule shape) row locals
+EpochRuleHolds = (shape : Layout) (opening : Opening) (first : World) (m : Machine) → IsShape shape → History shape opening first m
+    → Backed shape is_first (EpochRule shape) m.row m.locals

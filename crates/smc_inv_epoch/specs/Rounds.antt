@@ -1,9 +1,9 @@
 -- What the round word tells: whose round it is, and that no calm section is past its bound.
-use Rattle.std.specs.Prelude.{ℕ, List}
 use Rattle.smc_shape.specs.Layout.{Layout, IsShape}
-use Rattle.smc_core.specs.declared.local.Local.{Local}
 use Rattle.smc_core.specs.declared.local.Opening.{Opening}
-use Rattle.smc_core.specs.Machine.{IsOpening, IsOpened, Reach}
+use Rattle.smc_core.specs.Machine.{Machine}
+use Rattle.smc_model.specs.World.{World}
+use Rattle.smc_rules.specs.History.{History}
 use Rattle.smc_rules.specs.RelocationRule.{NamesOwner, CalmBound}
 use Rattle.smc_rules.specs.RoundAgreement.{RoundAgreement}
 use Rattle.smc_rules.specs.State.{State, IsKept, Backed}
@@ -24,8 +24,7 @@ pub record Rounds (shape : Layout) (state : State) : Type 0 where
 abbrev pub RoundsAreKept : Type 0
 RoundsAreKept = (shape : Layout) → IsShape shape → IsKept shape is_first (Rounds shape)
 
--- the round word tells the truth after every list of steps from a region without objects
+-- the round word tells the truth behind every history
 abbrev pub RoundWordRuleHolds : Type 0
-RoundWordRuleHolds = (shape : Layout) (opening : Opening) (start row : List ℕ) (locals : List Local)
-    → IsShape shape → IsOpening opening → IsOpened shape opening start → Reach shape start row locals
-    → Backed shape is_first (RoundWordRule shape) row locals
+RoundWordRuleHolds = (shape : Layout) (opening : Opening) (first : World) (m : Machine) → IsShape shape → History shape opening first m
+    → Backed shape is_first (RoundWordRule shape) m.row m.locals

@@ -6,8 +6,6 @@ use Rattle.std.proofs.lemmas.Bool.{ltb-true}
 use Rattle.smc_words.specs.declared.number.Number.{Number}
 use Rattle.smc_words.specs.declared.round.RoundWord.{RoundWord}
 use Rattle.smc_shape.specs.Layout.{Layout, IsShape, width_of, entries_of}
-use Rattle.smc_shape.specs.Places.{InRange}
-use Rattle.smc_shape.specs.declared.place.Place.{Place}
 use Rattle.smc_shape.specs.declared.place.Place.TheVariants as place
 use Rattle.smc_core.specs.declared.done.Done.TheVariants as done
 use Rattle.smc_core.specs.declared.local.Held.{Held}
@@ -31,7 +29,7 @@ use Rattle.smc_core.specs.Look.{look_offer}
 use Rattle.smc_core.specs.Scan.{scan_change}
 use Rattle.smc_core.specs.Step.{goes, ends}
 use Rattle.smc_core.specs.Words.{plain_of, dir_of, state_of}
-use Rattle.smc_inv_range.specs.Ranges.{IsNamed, IsSlot, InWord, InOp, InShown}
+use Rattle.smc_inv_range.specs.Ranges.{IsNamed, IsSlot, InOp, InShown}
 use Rattle.smc_inv_range.specs.Calls.{InPhase, IsHeldWithin}
 use Rattle.std.specs.Prelude.{All}
 use Rattle.std.proofs.lemmas.Bool.{eqb-false}
@@ -41,7 +39,6 @@ use Rattle.smc_core.specs.declared.call.Call.{Call}
 use Rattle.smc_core.specs.declared.call.Call.TheVariants as call
 use Rattle.smc_core.specs.declared.call.Choice.{Choice}
 use Rattle.smc_core.specs.declared.call.Choice.TheVariants.{Start, Go}
-use Rattle.smc_core.specs.declared.local.Opening.{Opening}
 use Rattle.smc_core.specs.declared.local.Owned.{Owned}
 use Rattle.smc_core.specs.declared.local.Stand.{Stand}
 use Rattle.smc_core.specs.declared.op.Offer.{Offer}
@@ -54,8 +51,7 @@ use Rattle.smc_core.specs.Count.{no_count}
 use Rattle.smc_core.specs.Finish.{finish_start, finish_started, first_target, is_early}
 use Rattle.smc_core.specs.Local.{section_after, held_after, round_after, round_begun, words_after}
 use Rattle.smc_core.specs.Offer.{offer, go_offer, start_offer, held_slot, look_start}
-use Rattle.smc_core.specs.Machine.{IsOpening, first_word}
-use Rattle.smc_core.specs.Row.{has_place, OpFits, Suits}
+use Rattle.smc_core.specs.Row.{has_place, OpFits}
 use Rattle.smc_core.specs.Scan.{scan_of, next_offer, is_over}
 use Rattle.smc_core.specs.Section.{epoch_of, is_calm, entering_offer}
 use Rattle.smc_core.specs.Step.{step}
@@ -401,31 +397,3 @@ module _ (shape : Layout) (valid : IsShape shape) (state : rules.State) (pass : 
         held = held_after-in shape stand.held choice (change shape pass stand stand.section stand.phase choice told w).holds f.held left.0.1;
         round = left.2;
       }
-
--- a region without objects keeps them
-module _ (shape : Layout) (valid : IsShape shape) (opening : Opening) (opens : IsOpening opening) where
-  word-in : (there : Place) → InRange shape there → InWord shape there (first_word opening there)
-  word-in place.Epoch r = opens.last
-  word-in place.Round r = tt
-  word-in (place.Section i) r = omega arith
-  word-in (place.Entry coll entry) r = (opens.incarnation, omega arith)
-  word-in (place.Directory coll slot) r = tt
-  word-in (place.Back coll slot) r = tt
-  word-in (place.Forward coll slot) r = omega (arith, r)
-  word-in (place.Field coll slot field) r = omega arith
-
-  pub suits_first : (there : Place) → Suits there (first_word opening there)
-  suits_first place.Epoch = omega (arith, opens.last)
-  suits_first place.Round = tt
-  suits_first (place.Section i) = omega arith
-  suits_first (place.Entry coll entry) = (opens.incarnation, omega arith)
-  suits_first (place.Directory coll slot) = tt
-  suits_first (place.Back coll slot) = tt
-  suits_first (place.Forward coll slot) = omega arith
-  suits_first (place.Field coll slot field) = omega arith
-
-  pub first_in : Ranges shape (first_state shape opening)
-  first_in = record {
-    memory = word-in;
-    stands = λ i lt. record { section = tt; phase = tt; held = All-nil (IsHeldWithin shape); round = tt };
-  }

@@ -30,7 +30,7 @@ marks_kept shape s marks pass choice offered told in_n ranges rounds agrees scan
     each_offered (Known marks) (KeepsMarks marks) (marks-each marks) shape s (all_shut shape s ranges rounds agrees) (record { scans = scans; marks = known; here = here }) pass in_n choice offered told offers
 
 pub marks_begun : MarksBegin
-marks_begun shape opening = record {
+marks_begun shape memory world = record {
   m_began = λ i k c a e b li is bg. absurd (cc);
   m_given = λ i k c a e b li is vs. absurd (cc);
   m_coll = λ i k c a e b li is vs. absurd (cc);

@@ -1,7 +1,6 @@
 -- The part of the relocation rule on passed targets, from what the scans agree on.
 use Rattle.std.proofs.Common.{◌≡◌, ℕ, ◌<◌, ◌≤◌, Some, refl, sym, subst, arith}
 use Rattle.smc_shape.specs.Layout.{Layout}
-use Rattle.smc_core.specs.declared.local.Opening.{Opening}
 use Rattle.smc_core.specs.declared.word.State.{State}
 use Rattle.smc_core.specs.declared.word.State.TheVariants as state
 use Rattle.smc_core.specs.Section.{epoch_of}
@@ -9,14 +8,16 @@ use Rattle.smc_core.specs.Scan.{scan_of}
 use Rattle.smc_rules.specs.Reads.{state_in, forward_in}
 use Rattle.smc_rules.specs.RelocationRule.{PassedTarget, frozen_in}
 use Rattle.smc_rules.specs.State as S
-use Rattle.smc_rules.specs.State.{first_state}
+use Rattle.smc_rules.specs.Memory.{Memory}
+use Rattle.smc_rules.specs.Start.{starting}
+use Rattle.smc_model.specs.World.{World}
 use Rattle.smc_agreement.proofs.Whole.{Shut, moves}
 use Rattle.smc_inv_scan.specs.Scans.{ScansAgree}
 use Rattle.smc_inv_scan.proofs.ListLaws.{listed}
 
 -- the state in which a region begins has no scans
-pub first_scans : (shape : Layout) (opening : Opening) → ScansAgree shape (first_state shape opening)
-first_scans shape opening = record {
+pub first_scans : (shape : Layout) (memory : Memory) (world : World) → ScansAgree shape (starting shape memory world)
+first_scans shape memory world = record {
   s_apart = λ i li. tt;
   s_fresh = λ i k b li is. absurd (cc);
   s_within = λ i k b li is. absurd (cc);

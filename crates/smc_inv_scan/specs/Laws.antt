@@ -2,11 +2,12 @@
 use Rattle.std.specs.Prelude.{◌≡◌, ℕ, ◌<◌, Some}
 use Rattle.smc_shape.specs.Layout.{Layout}
 use Rattle.smc_core.specs.declared.call.Choice.{Choice}
-use Rattle.smc_core.specs.declared.local.Opening.{Opening}
 use Rattle.smc_core.specs.declared.op.Offer.{Offer}
-use Rattle.smc_rules.specs.Memory.{seen}
+use Rattle.smc_model.specs.World.{World}
+use Rattle.smc_rules.specs.Memory.{Memory, seen}
+use Rattle.smc_rules.specs.Start.{starting}
 use Rattle.smc_rules.specs.RelocationRule.{PassedTarget}
-use Rattle.smc_rules.specs.State.{State, first_state, stand_offer, stand_change, state_after}
+use Rattle.smc_rules.specs.State.{State, stand_offer, stand_change, state_after}
 use Rattle.smc_inv_epoch.specs.Rounds.{Rounds}
 use Rattle.smc_inv_range.specs.Calls.{Ranges}
 use Rattle.smc_agreement.specs.Agreement.{Agreement}
@@ -20,9 +21,9 @@ ScansAreKept = (shape : Layout) (state : State) (pass : ℕ) (choice : Choice) (
     → stand_offer shape pass (state.stands pass) choice ≡ Some offered
     → ScansAgree shape (state_after shape state pass choice told offered.op (seen offered.op state.memory))
 
--- the state in which a region begins agrees on its scans, as it has none
+-- a state in which no pass has done anything agrees on its scans, as it has none
 abbrev pub ScansBegin : Type 0
-ScansBegin = (shape : Layout) (opening : Opening) → ScansAgree shape (first_state shape opening)
+ScansBegin = (shape : Layout) (memory : Memory) (world : World) → ScansAgree shape (starting shape memory world)
 
 -- in a state that agrees on its scans the part of the relocation rule on passed targets holds
 abbrev pub TargetsArePassed : Type 0
@@ -39,7 +40,7 @@ MarksAreKept = (shape : Layout) (state : State) (marks : ℕ → Marks) (pass : 
 
 -- a region begins without marks
 abbrev pub MarksBegin : Type 0
-MarksBegin = (shape : Layout) (opening : Opening) → MarksAgree shape (first_state shape opening) no_marks
+MarksBegin = (shape : Layout) (memory : Memory) (world : World) → MarksAgree shape (starting shape memory world) no_marks
 
 -- the event of each step fits the marks: a visit is the first one of an object that is present, and a scan that ends has
 -- visited what it should

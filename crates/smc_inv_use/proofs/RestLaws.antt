@@ -120,7 +120,7 @@ module _ (opening : Opening) (shape : Layout) (s : State) (k : Used opening shap
             incarnation = a;
             within = within;
             here = here;
-            only = λ other again there. one_object c slot other e again a there here;
+            only = λ other again lt there. one_object c slot other e again a there here;
             home = (slot_rule opening shape s k.everything).home (object a e c) slot within (subst (λ (w : E.State). IsTrue (has_object_at a slot w)) (sym here) (grind (arith, nat_tests)));
           }
 

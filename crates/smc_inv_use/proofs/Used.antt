@@ -1,22 +1,23 @@
 -- All that every state keeps, with the users of slots: kept by each step, and so after every list of steps.
-use Rattle.std.proofs.Common.{◌≡◌, ℕ, ◌<◌, List, Some, refl, sym, subst, arith}
+use Rattle.std.proofs.Common.{◌≡◌, ℕ, ◌<◌, List, Some, inl, refl, sym, ap, subst, arith}
 use Rattle.std.proofs.lemmas.Bool.Decides.{nat_tests}
 use Rattle.smc_shape.specs.Layout.{Layout, IsShape}
 use Rattle.smc_core.specs.declared.call.Choice.{Choice}
-use Rattle.smc_core.specs.declared.local.Local.{Local}
 use Rattle.smc_core.specs.declared.local.Opening.{Opening}
 use Rattle.smc_core.specs.declared.op.Offer.{Offer}
 use Rattle.smc_core.specs.declared.word.Word.{Word}
-use Rattle.smc_core.specs.Machine.{IsOpening, IsOpened, Reach}
-use Rattle.smc_rules.specs.Memory.{seen}
+use Rattle.smc_model.specs.World.{World}
+use Rattle.smc_core.specs.Machine.{Machine, started}
+use Rattle.smc_rules.specs.History.{History, HoldsAlways, history_state, history_world}
+use Rattle.smc_rules.specs.Start.{IsAtStart, IsStart, StartsSlot, memory_behind, starting}
+use Rattle.smc_agreement.specs.Entries.{stands_at}
+use Rattle.smc_rules.specs.Memory.{Memory, seen}
 use Rattle.smc_rules.specs.Mirror.{anywhere}
-use Rattle.smc_rules.specs.State.{State, IsKept, Backed, stand_offer, state_after, first_state}
-use Rattle.smc_rules.proofs.CarryLaws.{carried}
-use Rattle.smc_inv_range.proofs.StepLaws.{suits_first}
+use Rattle.smc_rules.specs.State.{State, IsKept, stand_offer, state_after}
+use Rattle.smc_rules.proofs.HistoryLaws.{HoldsOf, at_first, holds_then}
 use Rattle.smc_agreement.proofs.EachKind.{each_step}
 use Rattle.smc_agreement.proofs.Whole.{shut}
-use Rattle.smc_laws.specs.Laws.{HoldsAlways}
-use Rattle.smc_laws.proofs.Everything.{Everything, everything-kept, everything-first}
+use Rattle.smc_laws.proofs.Everything.{Everything, everything-kept, everything-starting}
 use Rattle.smc_inv_use.specs.Uses.{UsesAgree}
 use Rattle.smc_inv_use.proofs.EachUses.{uses-each}
 
@@ -25,9 +26,10 @@ pub record Used (opening : Opening) (shape : Layout) (s : State) : Type 0 where
   pub everything : Everything opening shape s
   pub uses : UsesAgree shape s
 
-uses-first : (shape : Layout) (opening : Opening) → UsesAgree shape (first_state shape opening)
-uses-first shape opening = record {
-  u_slot = λ c' s' is. grind (arith, nat_tests);
+-- at the start each slot that is valid has an object
+uses-first : (shape : Layout) (opening : Opening) (world : World) (memory : Memory) → IsAtStart shape opening world memory → UsesAgree shape (starting shape memory world)
+uses-first shape opening world memory q = record {
+  u_slot = λ c' s' is. let (own, entry, there) = subst (StartsSlot memory c' s') is (q.slots c' s') in inl (own, entry, ap stands_at there);
   u_named = λ i c' s' li is. grind (arith, nat_tests);
   u_moves = λ i c' s' t' a' e' li is nm inc. grind (arith, nat_tests);
 }
@@ -46,17 +48,14 @@ module _ (opening : Opening) (shape : Layout) (valid : IsShape shape) where
     };
   }
 
-  pub used-first : IsOpening opening → Used opening shape (first_state shape opening)
-  used-first opens = record { everything = everything-first opening shape valid opens; uses = uses-first shape opening }
+  -- so it is at each start, and of every history
+  pub used-starts : (first : World) (start : List ℕ) → IsStart shape opening first start → HoldsOf shape opening (Used opening shape) (started shape start) first
+  used-starts first start starts = at_first shape opening (Used opening shape) first start starts
+      (record { everything = everything-starting opening shape valid first start starts; uses = uses-first shape opening first (memory_behind shape opening start) starts.at_rest })
 
-  -- after every list of steps
-  pub used-reached : (start row : List ℕ) (locals : List Local) → IsOpening opening → IsOpened shape opening start → Reach shape start row locals
-      → Backed shape anywhere (Used opening shape) row locals
-  used-reached start row locals opens opened reached =
-      carried shape anywhere valid (Used opening shape) used-kept opening start row locals (λ there u. suits_first shape valid opening opens there) (used-first opens) opened reached
+  pub used-then : (first : World) (m : Machine) (h : History shape opening first m) → HoldsOf shape opening (Used opening shape) m (history_world h)
+  used-then first m h = holds_then shape opening valid (Used opening shape) used-kept first m h (used-starts first h.start h.starts)
 
 -- what follows from it holds always
 pub always_used : (Rule : Layout → Opening → State → Type 0) → ((opening : Opening) (shape : Layout) (s : State) → Used opening shape s → Rule shape opening s) → HoldsAlways Rule
-always_used Rule follows shape opening start row locals valid opens opened reached =
-    let b = used-reached opening shape valid start row locals opens opened reached in
-    record { state = b.state; backs = b.backs; rule = follows opening shape b.state b.rule }
+always_used Rule follows shape opening first m valid h = follows opening shape (history_state h) (used-then opening shape valid first m h).rule

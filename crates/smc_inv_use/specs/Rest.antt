@@ -22,7 +22,7 @@ pub record HasOneObject (shape : Layout) (s : State) (coll slot : ℕ) : Type 0 
   pub incarnation : ℕ
   pub within : entry < entries_of shape coll
   pub here : state_in s.memory coll entry ≡ state.Present incarnation slot
-  pub only : (other again : ℕ) → state_in s.memory coll other ≡ state.Present again slot → other ≡ entry
+  pub only : (other again : ℕ) → other < entries_of shape coll → state_in s.memory coll other ≡ state.Present again slot → other ≡ entry
   pub home : IsHome shape s.world s.memory slot (object incarnation entry coll)
 
 -- a slot with this directory word is free, or was left for later use, or has one object

@@ -1,6 +1,6 @@
 //! Each function is a theorem over the definitions in `specs`, and does nothing.
 ghost use Rattle.smc_inv_use.specs.Laws.{EntriesAtRest, SlotsAtRest, ValidIsUsed};
-ghost use Rattle.smc_laws.specs.Laws.{HoldsAlways};
+ghost use Rattle.smc_rules.specs.History.{HoldsAlways};
 
 /// A slot that is in use has a user: an object, present or removed, or an add or a finish in progress.
 pub fn valid_slots_are_used()

@@ -1,19 +1,20 @@
 -- All parts together, kept by each step, and so after every list of steps.
 use Rattle.std.proofs.Common.{◌≡◌, ℕ, ◌<◌, List, Some, refl, sym, subst}
 use Rattle.smc_shape.specs.Layout.{Layout, IsShape}
+use Rattle.smc_model.specs.World.{World}
 use Rattle.smc_core.specs.declared.call.Choice.{Choice}
-use Rattle.smc_core.specs.declared.local.Local.{Local}
 use Rattle.smc_core.specs.declared.local.Opening.{Opening}
 use Rattle.smc_core.specs.declared.op.Offer.{Offer}
 use Rattle.smc_core.specs.declared.word.Word.{Word}
-use Rattle.smc_core.specs.Machine.{IsOpening, IsOpened, Reach}
-use Rattle.smc_rules.specs.Memory.{seen}
+use Rattle.smc_core.specs.Machine.{Machine, started}
+use Rattle.smc_rules.specs.History.{History, history_world}
+use Rattle.smc_rules.specs.Start.{IsStart, memory_behind, starting}
+use Rattle.smc_rules.specs.Memory.{Memory, seen}
 use Rattle.smc_rules.specs.Mirror.{anywhere}
-use Rattle.smc_rules.specs.State.{State, IsKept, Backed, stand_offer, state_after, first_state}
-use Rattle.smc_rules.proofs.CarryLaws.{carried}
-use Rattle.smc_inv_epoch.proofs.RoundLaws.{rounds-kept, rounds-first}
-use Rattle.smc_inv_range.proofs.ReachLaws.{ranges_kept}
-use Rattle.smc_inv_range.proofs.StepLaws.{suits_first, first_in}
+use Rattle.smc_rules.specs.State.{State, IsKept, stand_offer, state_after}
+use Rattle.smc_rules.proofs.HistoryLaws.{HoldsOf, at_first, holds_then}
+use Rattle.smc_inv_epoch.proofs.RoundLaws.{rounds-kept, rounds-starting}
+use Rattle.smc_inv_range.proofs.ReachLaws.{ranges_kept, ranges_starting}
 use Rattle.smc_agreement.specs.Agreement.{CallsAgree, CopiesAgree, ClaimsAgree, ObjectsAgree, MovesAgree}
 use Rattle.smc_agreement.specs.Kept.{Agrees, Nothing}
 use Rattle.smc_agreement.specs.Records.{RecordsAgree}
@@ -74,15 +75,22 @@ module _ (opening : Opening) (shape : Layout) (valid : IsShape shape) where
         subst (λ (v : Word). Everything opening shape (state_after shape s pass choice told o.op v)) (sym (shows refl)) (everything_after s h pass within choice o told offers);
   }
 
-  pub everything-first : IsOpening opening → Everything opening shape (first_state shape opening)
-  everything-first opens = record {
-    whole = record { ranges = first_in shape valid opening opens; rounds = rounds-first shape valid opening opens; agrees = agreement-first shape opening };
-    records = records-first shape opening;
-    scans = first_scans shape opening;
-  }
+  -- at each start
+  pub everything-starting : (first : World) (start : List ℕ) → IsStart shape opening first start → Everything opening shape (starting shape (memory_behind shape opening start) first)
+  everything-starting first start starts =
+      let memory : Memory = memory_behind shape opening start in record {
+        whole = record {
+          ranges = ranges_starting shape opening first memory (λ there r. starts.mirrors.suits there refl r) starts.opens starts.at_rest;
+          rounds = rounds-starting shape valid opening first memory starts.opens starts.at_rest;
+          agrees = agreement-first shape opening first memory starts.at_rest;
+        };
+        records = records-first shape opening first memory starts.at_rest;
+        scans = first_scans shape memory first;
+      }
 
-  -- after every list of steps
-  pub everything-reached : (start row : List ℕ) (locals : List Local) → IsOpening opening → IsOpened shape opening start → Reach shape start row locals
-      → Backed shape anywhere (Everything opening shape) row locals
-  everything-reached start row locals opens opened reached =
-      carried shape anywhere valid (Everything opening shape) everything-kept opening start row locals (λ there u. suits_first shape valid opening opens there) (everything-first opens) opened reached
+  pub everything-starts : (first : World) (start : List ℕ) → IsStart shape opening first start → HoldsOf shape opening (Everything opening shape) (started shape start) first
+  everything-starts first start starts = at_first shape opening (Everything opening shape) first start starts (everything-starting first start starts)
+
+  -- and so of the state of every history
+  pub everything-then : (first : World) (m : Machine) (h : History shape opening first m) → HoldsOf shape opening (Everything opening shape) m (history_world h)
+  everything-then first m h = holds_then shape opening valid (Everything opening shape) everything-kept first m h (everything-starts first h.start h.starts)

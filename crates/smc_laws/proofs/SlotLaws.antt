@@ -388,7 +388,9 @@ module _ (opening : Opening) (shape : Layout) (s : State) (e : Everything openin
     slot_claim = λ coll slot lt is. slot_claim coll slot is;
     entry_claim = λ coll entry a lt is. entry_claim coll entry a is;
     slot_owed = λ slot a b la lb x y. owed_once a b slot.0 slot.1 la lb (owes a slot.0 slot.1 la (s.stands a).phase refl x) (owes b slot.0 slot.1 lb (s.stands b).phase refl y);
-    entry_owed = λ n a b la lb x y. (claims h).one_gone a b n.coll n.incarnation n.incarnation n.entry la lb (removing a n (s.stands a).phase refl x) (removing b n (s.stands b).phase refl y);
+    one_claim = λ coll entry a b la lb x y. (claims h).one_entry a b coll x.0 y.0 entry la lb x.1 y.1;
+    entry_owed = λ coll entry a b la lb x y. (claims h).one_gone a b coll x.0 y.0 entry la lb
+        (removing a (object x.0 entry coll) (s.stands a).phase refl x.1) (removing b (object y.0 entry coll) (s.stands b).phase refl y.1);
     stored = λ pass lt. stands_as_stored pass lt (s.stands pass).phase refl;
     sources = λ pass m lt is. sources_above pass (s.stands pass).phase m lt refl is;
     targets = λ pass m lt is. targets_below pass (s.stands pass).phase m lt refl is;

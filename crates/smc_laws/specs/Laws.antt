@@ -1,24 +1,23 @@
--- What holds in every state that lists of steps lead to, from a region without objects.
-use Rattle.std.specs.Prelude.{◌≡◌, ◌≢◌, ℕ, ◌<◌, Some, List, IsSomeAnd}
+-- What holds in the state of every history of a region: from each start, after every list of steps.
+use Rattle.std.specs.Prelude.{◌≡◌, ◌≢◌, ℕ, ◌<◌, Some, IsSomeAnd}
 use Rattle.smc_words.specs.declared.dir.Dir.TheVariants as dir
 use Rattle.smc_words.specs.declared.number.Number.{Number}
-use Rattle.smc_shape.specs.Layout.{Layout, IsShape}
+use Rattle.smc_shape.specs.Layout.{Layout}
+use Rattle.smc_model.specs.World.{empty_world}
 use Rattle.smc_core.specs.declared.call.Choice.{Choice}
-use Rattle.smc_core.specs.declared.local.Local.{Local}
 use Rattle.smc_core.specs.declared.local.Opening.{Opening}
 use Rattle.smc_core.specs.declared.op.Offer.{Offer}
 use Rattle.smc_core.specs.declared.word.State.TheVariants as state
-use Rattle.smc_core.specs.Machine.{IsOpening, IsOpened, Reach}
 use Rattle.smc_core.specs.Played.{Schedule, shape_of, played}
 use Rattle.smc_inv_epoch.specs.Epochs.{opening_of}
 use Rattle.smc_rules.specs.Calls.{Copying, copying_of}
 use Rattle.smc_rules.specs.EpochRule.{EpochRule}
+use Rattle.smc_rules.specs.History.{History, history_state}
 use Rattle.smc_rules.specs.Memory.{seen}
-use Rattle.smc_rules.specs.Mirror.{anywhere}
 use Rattle.smc_rules.specs.Reads.{state_for, dir_in, forward_in}
 use Rattle.smc_rules.specs.RelocationRule.{Holds, RelocationRule}
 use Rattle.smc_rules.specs.SlotRule.{SlotRule}
-use Rattle.smc_rules.specs.State.{State, Backed, stand_offer, stand_change}
+use Rattle.smc_rules.specs.State.{State, stand_offer, stand_change}
 
 -- all three rules of one state
 pub record AllRules (shape : Layout) (opening : Opening) (s : State) : Type 0 where
@@ -30,15 +29,9 @@ pub record AllRules (shape : Layout) (opening : Opening) (s : State) : Type 0 wh
 abbrev pub Relocation : Layout → Opening → State → Type 0
 Relocation shape opening s = RelocationRule shape s
 
--- it holds in a state behind every row and all local states that lists of steps lead to
-abbrev pub HoldsAlways : (Layout → Opening → State → Type 0) → Type 0
-HoldsAlways Rule = (shape : Layout) (opening : Opening) (start row : List ℕ) (locals : List Local)
-    → IsShape shape → IsOpening opening → IsOpened shape opening start → Reach shape start row locals
-    → Backed shape anywhere (Rule shape opening) row locals
-
--- all three rules hold where a schedule has led, if all of it can be played
+-- where a schedule has led, if all of it can be played, there is a history from the empty world, in whose state all three rules hold
 abbrev pub HoldAfter : Schedule → Type 0
-HoldAfter s = IsSomeAnd (played s) (λ m. Backed (shape_of s) anywhere (AllRules (shape_of s) (opening_of s)) m.row m.locals)
+HoldAfter s = IsSomeAnd (played s) (λ m. (h : History (shape_of s) (opening_of s) empty_world m) × AllRules (shape_of s) (opening_of s) (history_state h))
 
 -- a step that finds an object which its section holds finds it in the same slot
 abbrev pub KeepsPlaces : Layout → Opening → State → Type 0

@@ -1,6 +1,7 @@
 //! Each function is a theorem over the definitions in `specs`, and does nothing.
 ghost use Rattle.smc_core.specs.Schedules.{abandoned, helped};
-ghost use Rattle.smc_laws.specs.Laws.{AllRules, HoldAfter, HoldsAlways, KeepsPlaces, LeavesAlone, Relocation};
+ghost use Rattle.smc_laws.specs.Laws.{AllRules, HoldAfter, KeepsPlaces, LeavesAlone, Relocation};
+ghost use Rattle.smc_rules.specs.History.{HoldsAlways};
 ghost use Rattle.smc_rules.specs.SlotRule.{SlotRule};
 
 use smc_core::laws::schedules_are_reached;
@@ -15,7 +16,7 @@ pub fn relocation_rule_holds()
     ensures { HoldsAlways Relocation }
 {}
 
-/// All three rules hold of one state behind each row and all local states that steps lead to.
+/// All three rules hold of the state of each history.
 pub fn all_rules_hold()
     ensures { HoldsAlways AllRules }
 {}

@@ -39,7 +39,7 @@ held_after-front held Go None = refl
 held_after-front held Go (Some pair) = refl
 
 -- a log with the event of a step, if there is one
-logged-event : (log : List Event) (event : Option Event) → log ++ option_to_list event ≡ logged log event
+pub logged-event : (log : List Event) (event : Option Event) → log ++ option_to_list event ≡ logged log event
 logged-event log None = append-nil log
 logged-event log (Some event) = refl
 

@@ -1,5 +1,5 @@
 -- One more step of a schedule.
-use Rattle.std.proofs.Common.{◌≡◌, ℕ, ◌+◌, ◌<◌, Option, List, length, take, get_or, [], ◌∷◌, ◌++◌, refl, sym, ap, ◌∙◌, subst, append_assoc}
+use Rattle.std.proofs.Common.{◌≡◌, ℕ, zero, suc, ◌+◌, ◌<◌, Option, List, length, take, get_or, [], ◌∷◌, ◌++◌, refl, sym, ap, ◌∙◌, subst, append_assoc}
 use Rattle.std.specs.Option.{option_to_list}
 use Rattle.std.specs.List.{slice_get}
 use Rattle.std.proofs.lemmas.List.{append-nil, take_more}
@@ -8,6 +8,14 @@ use Rattle.smc_shape.specs.Layout.{Layout}
 use Rattle.smc_model.specs.declared.event.Event.{Event}
 use Rattle.smc_core.specs.declared.call.Choice.{Choice}
 use Rattle.smc_core.specs.Machine.{Machine, Steps, Leads, Reach, started}
+use Rattle.std.specs.Prelude.{slice_set, None, Some}
+use Rattle.smc_model.specs.Order.{events_of}
+use Rattle.smc_core.specs.declared.local.Local.{Local}
+use Rattle.smc_core.specs.Local.{after}
+use Rattle.smc_core.specs.Row.{row_shows}
+use Rattle.smc_core.specs.Told.{adds, told_along, told_by_step}
+use Rattle.smc_machine.proofs.AddedLaws.{logged-event}
+use Rattle.std.proofs.lemmas.List.{append_cancel_left}
 use Rattle.smc_machine.specs.declared.step.StepFault.{StepFault}
 use Rattle.smc_machine.specs.Running.{Running}
 use Rattle.smc_machine.specs.Plays.{Plays, PlaysOne, IsStopped, IsStoppedAt, StopsAt}
@@ -53,6 +61,40 @@ pub Plays-leads : (shape : Layout) (first : Machine) (steps : List (ℕ × Choic
 Plays-leads shape first [] events last played = played.0
 Plays-leads shape first (line ∷ later) events last played =
     (played.0, played.3.leads, Plays-leads shape played.0 later played.2 last played.4)
+
+-- what is put at a place of a list is there
+get-set : (xs : List Local) (i : ℕ) (x y : Local) → slice_get xs i ≡ Some x → slice_get (slice_set xs i y) i ≡ Some y
+get-set [] i x y e = cc
+get-set (a ∷ xs) zero x y e = refl
+get-set (a ∷ xs) (suc i) x y e = get-set xs i x y e
+
+-- the events of what a step adds
+adds-events : (pass : ℕ) (e : Option Event) (rest : List (ℕ × Event)) → events_of (adds pass e ++ rest) ≡ option_to_list e ++ events_of rest
+adds-events pass None rest = refl
+adds-events pass (Some event) rest = refl
+
+-- a step that is played tells what the steps of the definitions tell
+one-told : (shape : Layout) (m : Machine) (pass : ℕ) (choice : Choice) (old new : List Event) (next : Machine) (one : PlaysOne shape m pass choice old new next)
+    → option_to_list (told_by_step shape m pass choice next one.leads) ≡ option_to_list one.step.event
+one-told shape m pass choice old new next one =
+    let l : Local = one.leads.local in
+    let l' : Local = after shape pass l choice one.leads.told (row_shows shape one.leads.offered.op m.row) in
+    let there : slice_get next.locals pass ≡ Some l' = ap (λ (k : Machine). slice_get k.locals pass) one.leads.leads ∙ get-set m.locals pass l l' one.leads.here in
+    append_cancel_left l.log (option_to_list (told_by_step shape m pass choice next one.leads)) (option_to_list one.step.event)
+    (logged-event l.log (told_by_step shape m pass choice next one.leads) ∙ ((one.tells l l' one.leads.here there).log ∙ sym (logged-event l.log one.step.event)))
+
+-- so what is played leads on, and tells the events of its steps
+pub Plays-told : (shape : Layout) (first : Machine) (steps : List (ℕ × Choice)) (events : List Event) (last : Machine)
+    → Plays shape first steps events last → (leads : Leads shape first steps last) × (events_of (told_along shape first steps last leads) ≡ events)
+Plays-told shape first [] events last played = (played.0, sym played.1)
+Plays-told shape first (line ∷ later) events last played =
+    let (leads, same) = Plays-told shape played.0 later played.2 last played.4 in
+    let e : Option Event = told_by_step shape first line.0 line.1 played.0 played.3.leads in (
+      (played.0, played.3.leads, leads),
+      adds-events line.0 e (told_along shape played.0 later last leads)
+          ∙ (ap (λ (es : List Event). option_to_list e ++ es) same
+          ∙ (ap (λ (es : List Event). es ++ played.2) (one-told shape first line.0 line.1 [] played.1 played.0 played.3 ∙ sym played.3.events) ∙ sym played.5)),
+    )
 
 -- a step from where steps reach leads to where they reach
 pub Reach-step : (shape : Layout) (start : List ℕ) (m next : Machine) (pass : ℕ) (choice : Choice)

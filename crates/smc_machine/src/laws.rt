@@ -8,6 +8,8 @@ ghost use Rattle.smc_core.specs.declared.word.Word.{Word};
 ghost use Rattle.smc_core.specs.declared.call.Choice.{Choice};
 ghost use Rattle.smc_core.specs.Machine.{Machine, Steps, Leads, Reach, started};
 ghost use Rattle.smc_core.specs.Row.{packed, unpacked, Suits};
+ghost use Rattle.smc_core.specs.Told.{told_along};
+ghost use Rattle.smc_model.specs.Order.{events_of};
 ghost use Rattle.smc_model.specs.declared.event.Event.{Event};
 ghost use Rattle.smc_machine.specs.Plays.{Plays};
 
@@ -25,8 +27,9 @@ pub fn steps_stay_in_reach()
         → Reach shape start next.row next.locals }
 {}
 
-/// A schedule that was played leads to where it was played to.
+/// A schedule that was played leads to where it was played to, and what it told are the events of its steps, in order.
 pub fn plays_lead()
     ensures { (shape : Layout) (first last : Machine) (steps : List (ℕ × Choice)) (events : List Event)
-        → Plays shape first steps events last → Leads shape first steps last }
+        → Plays shape first steps events last
+        → (leads : Leads shape first steps last) × (events_of (told_along shape first steps last leads) ≡ events) }
 {}

@@ -89,7 +89,7 @@ module _ (opening : Opening) (shape : Layout) (valid : IsShape shape) (start : L
       let t : S.State = left.still.moment.scene.state in
       let same : occupied shape t.memory coll ≡ occupied shape s.memory coll = same-occupied shape valid coll s.memory t.memory (still-homes shape coll s.memory t.memory left.still.same.still) in
       let count : count_of t.world coll ≡ count_of s.world coll = count-same coll s.world t.world left.still.same.in_world in
-      let enough : count_of t.world coll ≤ occupied shape t.memory coll * BLOCK_SLOTS = (blocks_enough opening shape t valid (record { rule = left.still.moment.scene.rule.all; made = left.still.moment.scene.rule.made })).enough coll in
+      let enough : count_of t.world coll ≤ occupied shape t.memory coll * BLOCK_SLOTS = (blocks_enough opening shape t valid (record { rule = left.still.moment.scene.rule.all; fits = left.still.moment.scene.rule.fits })).enough coll in
       let most : occupied shape s.memory coll ≤ blocks_for (count_of s.world coll) = b.ends.0 in record {
         idle = record { moment = left.still.moment; no_round = none-owned last left.still.moment (round-still s.memory t.memory left.still.same.still b.ends.2) };
         packed = omega (arith, same, count, enough, most);

@@ -8,7 +8,8 @@ use Rattle.smc_core.specs.declared.done.Done.{Done}
 use Rattle.smc_core.specs.declared.done.Done.TheVariants as done
 use Rattle.smc_core.specs.declared.local.Opening.{Opening}
 use Rattle.smc_core.specs.Count.{blocks_for}
-use Rattle.smc_core.specs.Machine.{Machine, IsOpening, IsOpened, Reach}
+use Rattle.smc_core.specs.Machine.{Machine}
+use Rattle.smc_rules.specs.History.{History, history_state}
 use Rattle.smc_rules.specs.State as S
 use Rattle.smc_aside.specs.Aside.{IsAlone}
 use Rattle.smc_aside.proofs.Moments.{IsMoment, IsFree, alone-free, Then, calls}
@@ -20,7 +21,7 @@ use Rattle.smc_packing.specs.Packing.{DrivesPack, SurveysTell, SurveysTellPacked
 use Rattle.smc_packing.proofs.Drives.{IsIdleMoment, HasDriven, drives}
 use Rattle.smc_packing.proofs.Ends.{known-homes, said-of-logs}
 use Rattle.smc_packing.proofs.Homes.{same-occupied, still-homes}
-use Rattle.smc_packing.proofs.Known.{Known, known-kept, known-reached}
+use Rattle.smc_packing.proofs.Known.{Known, known-kept, known-then}
 use Rattle.smc_packing.proofs.Rests.{homes-valid}
 use Rattle.smc_packing.proofs.Surveys.{Surveying, survey-carries}
 
@@ -59,11 +60,11 @@ record HasStoodIdle (opening : Opening) (shape : Layout) (valid : IsShape shape)
   inside : pass < shape.passes
   free : IsIdleMoment opening shape valid start pass inside m
 
-first-idle : (opening : Opening) (shape : Layout) (valid : IsShape shape) (start : List ℕ) (pass : ℕ) (m : Machine) → IsOpening opening → IsOpened shape opening start → Reach shape start m.row m.locals
-    → IsAlone pass m → HasStoodIdle opening shape valid start pass m
-first-idle opening shape valid start pass m opens opened reached alone =
-    let b = known-reached opening shape valid start m.row m.locals opens opened reached in
-    let free : IsFree (Known opening shape) shape start pass m = alone-free shape start pass m reached alone b in
+first-idle : (opening : Opening) (shape : Layout) (valid : IsShape shape) (first : World) (pass : ℕ) (m : Machine) (h : History shape opening first m)
+    → IsAlone pass m → HasStoodIdle opening shape valid h.start pass m
+first-idle opening shape valid first pass m h alone =
+    let b = known-then opening shape valid first m h in
+    let free : IsFree (Known opening shape) shape h.start pass m = alone-free shape h.start pass m (h.steps, h.leads) alone (record { state = history_state h; backs = b.backs; rule = b.rule }) in
     let count : length m.locals ≡ shape.passes = b.backs.count in record {
       inside = omega (arith, count, slice_get_within m.locals pass alone.idle.local alone.idle.here);
       free = record { moment = free.moment; no_round = free.no_round };
@@ -71,24 +72,24 @@ first-idle opening shape valid start pass m opens opened reached alone =
 
 -- after a drive the objects are packed
 pub drives-pack : DrivesPack
-drives-pack shape opening start pass m valid opens opened reached alone coll last drive =
-    let f : HasStoodIdle opening shape valid start pass m = first-idle opening shape valid start pass m opens opened reached alone in
-    let d : HasDriven opening shape valid start pass f.inside coll last = drives opening shape valid start pass f.inside coll m last f.free drive in
-    said-of-logs opening shape valid start last opens opened d.idle.moment.reached d.idle.moment.scene coll (λ (n blocks : ℕ). blocks ≡ blocks_for n) d.packed
+drives-pack shape opening first pass m valid h alone coll last drive =
+    let f : HasStoodIdle opening shape valid h.start pass m = first-idle opening shape valid first pass m h alone in
+    let d : HasDriven opening shape valid h.start pass f.inside coll last = drives opening shape valid h.start pass f.inside coll m last f.free drive in
+    said-of-logs opening shape valid first last h.start h.starts d.idle.moment.reached d.idle.moment.scene coll (λ (n blocks : ℕ). blocks ≡ blocks_for n) d.packed
 
 -- a survey tells what there is
 pub surveys-tell : SurveysTell
-surveys-tell shape opening start pass m valid opens opened reached alone coll last answer survey =
-    let f : HasStoodIdle opening shape valid start pass m = first-idle opening shape valid start pass m opens opened reached alone in
-    let d : HasSurveyed opening shape valid start pass f.inside coll answer m last f.free = surveys opening shape valid start pass f.inside coll answer m last f.free survey in
-    said-of-logs opening shape valid start last opens opened d.moment.reached d.moment.scene coll (λ (n blocks : ℕ). answer ≡ done.Surveyed coll n blocks) d.tells
+surveys-tell shape opening first pass m valid h alone coll last answer survey =
+    let f : HasStoodIdle opening shape valid h.start pass m = first-idle opening shape valid first pass m h alone in
+    let d : HasSurveyed opening shape valid h.start pass f.inside coll answer m last f.free = surveys opening shape valid h.start pass f.inside coll answer m last f.free survey in
+    said-of-logs opening shape valid first last h.start h.starts d.moment.reached d.moment.scene coll (λ (n blocks : ℕ). answer ≡ done.Surveyed coll n blocks) d.tells
 
 -- after a drive these are the fewest blocks
 pub surveys-tell-packed : SurveysTellPacked
-surveys-tell-packed shape opening start pass m valid opens opened reached alone coll driven last answer drive survey =
-    let f : HasStoodIdle opening shape valid start pass m = first-idle opening shape valid start pass m opens opened reached alone in
-    let d : HasDriven opening shape valid start pass f.inside coll driven = drives opening shape valid start pass f.inside coll m driven f.free drive in
-    let t : HasSurveyed opening shape valid start pass f.inside coll answer driven last d.idle = surveys opening shape valid start pass f.inside coll answer driven last d.idle survey in
+surveys-tell-packed shape opening first pass m valid h alone coll driven last answer drive survey =
+    let f : HasStoodIdle opening shape valid h.start pass m = first-idle opening shape valid first pass m h alone in
+    let d : HasDriven opening shape valid h.start pass f.inside coll driven = drives opening shape valid h.start pass f.inside coll m driven f.free drive in
+    let t : HasSurveyed opening shape valid h.start pass f.inside coll answer driven last d.idle = surveys opening shape valid h.start pass f.inside coll answer driven last d.idle survey in
     let blocks : occupied shape t.moment.scene.state.memory coll ≡ blocks_for (count_of t.moment.scene.state.world coll) = t.blocks ∙ (d.packed ∙ ap blocks_for (sym t.counts)) in
-    said-of-logs opening shape valid start last opens opened t.moment.reached t.moment.scene coll (λ (n occupied : ℕ). answer ≡ done.Surveyed coll n (blocks_for n))
+    said-of-logs opening shape valid first last h.start h.starts t.moment.reached t.moment.scene coll (λ (n occupied : ℕ). answer ≡ done.Surveyed coll n (blocks_for n))
     (t.tells ∙ ap (λ (o : ℕ). done.Surveyed coll (count_of t.moment.scene.state.world coll) o) blocks)

@@ -9,11 +9,12 @@ use Rattle.smc_core.specs.declared.call.Call.TheVariants as call
 use Rattle.smc_core.specs.declared.done.Done.{Done}
 use Rattle.smc_core.specs.declared.done.Done.TheVariants as done
 use Rattle.smc_core.specs.declared.local.Answer.{Answer}
+use Rattle.smc_model.specs.World.{empty_world}
 use Rattle.smc_core.specs.Machine.{IsOpening, Machine}
-use Rattle.smc_core.specs.Played.{Schedule, opening_row, played, shape_of}
+use Rattle.smc_core.specs.Played.{Schedule, played, shape_of}
 use Rattle.smc_rules.proofs.CarryLaws.{some-same}
 use Rattle.smc_inv_epoch.specs.Epochs.{opening_of}
-use Rattle.smc_inv_epoch.proofs.Openings.{schedule-opened}
+use Rattle.smc_inv_epoch.proofs.Openings.{schedule-history}
 use Rattle.smc_aside.specs.Makes.{Makes}
 use Rattle.smc_aside.proofs.WholeCalls.{MakesEach, SchedulesAreReached, StepsAreComputed, at_rest, calls_of, each_made, kept_along, kept_with, place_of, places_in, rests-alone}
 use Rattle.smc_packing.specs.Drive.{Waits, FindsNothing, Moves, Drives}
@@ -115,7 +116,7 @@ module _ (computed : StepsAreComputed) (reached : SchedulesAreReached) (s : Sche
   -- the calls are made, and what a drive leaves holds
   packs_from : (found : Option Machine) → played s ≡ found → places_in found ≡ Some (at_rest ∷ at_rest ∷ [])
       → kept_along (shape_of s) 0 (calls_of made) found ≡ kept_with long before made
-      → IsSomeAnd found (λ m. (last : Machine) × Form (shape_of s) 0 0 m last × HasState (shape_of s) (opening_of s) last (IsPacked (shape_of s) 0))
+      → IsSomeAnd found (λ m. (last : Machine) × Form (shape_of s) 0 0 m last × HasState (shape_of s) (opening_of s) empty_world last (IsPacked (shape_of s) 0))
   packs_from None is places kept = absurd (cc)
   packs_from (Some m) is places kept =
       let (last, each) = each_made computed (shape_of s) 0 made long before m kept in
@@ -123,7 +124,8 @@ module _ (computed : StepsAreComputed) (reached : SchedulesAreReached) (s : Sche
       let here : map place_of m.locals ≡ at_rest ∷ at_rest ∷ [] = some-same (map place_of m.locals) (at_rest ∷ at_rest ∷ []) places in (
         last,
         form,
-        drives-pack (shape_of s) (opening_of s) (opening_row s) 0 m valid opens (schedule-opened s) (reached s m is)
+        drives-pack (shape_of s) (opening_of s) empty_world 0 m valid
+            (schedule-history s opens m (reached s m is))
             (rests-alone 2 0 m (omega arith) here) 0 last (drives m last form),
       )
 

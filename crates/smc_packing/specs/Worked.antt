@@ -2,6 +2,7 @@
 use Rattle.std.specs.Prelude.{ℕ, IsSomeAnd, [], ◌∷◌}
 use Rattle.smc_shape.specs.Layout.{Layout}
 use Rattle.smc_core.specs.declared.call.Call.TheVariants.{Add, Enter, Leave}
+use Rattle.smc_model.specs.World.{empty_world}
 use Rattle.smc_core.specs.Machine.{Machine}
 use Rattle.smc_core.specs.Played.{Calls, Schedule, played, shape_of}
 use Rattle.smc_inv_epoch.specs.Epochs.{opening_of}
@@ -31,4 +32,4 @@ in_one_block = record {
 
 -- from where the schedule leads pass 0 makes this of the collection, and its objects are packed then
 abbrev pub PacksAfter : (Layout → ℕ → ℕ → Machine → Machine → Type 0) → Schedule → Type 0
-PacksAfter Makes s = IsSomeAnd (played s) (λ m. (last : Machine) × Makes (shape_of s) 0 0 m last × HasState (shape_of s) (opening_of s) last (IsPacked (shape_of s) 0))
+PacksAfter Makes s = IsSomeAnd (played s) (λ m. (last : Machine) × Makes (shape_of s) 0 0 m last × HasState (shape_of s) (opening_of s) empty_world last (IsPacked (shape_of s) 0))

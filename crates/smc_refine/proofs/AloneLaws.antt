@@ -8,7 +8,7 @@ use Rattle.std.proofs.lemmas.Option.{slice_get_within, get_or_from_slice_get}
 use Rattle.smc_shape.specs.Layout.{Layout, IsShape}
 use Rattle.smc_model.specs.declared.event.Event.{Event}
 use Rattle.smc_model.specs.declared.event.Event.TheVariants as event
-use Rattle.smc_model.specs.Order.{log_of}
+use Rattle.smc_model.specs.Order.{log_of, events_of}
 use Rattle.smc_core.specs.declared.call.Call.{Call}
 use Rattle.smc_core.specs.declared.call.Call.TheVariants as call
 use Rattle.smc_core.specs.declared.call.Choice.{Choice}
@@ -23,7 +23,10 @@ use Rattle.smc_core.specs.declared.phase.Phase.TheVariants as phase
 use Rattle.smc_core.specs.declared.section.Section.{Section}
 use Rattle.smc_core.specs.declared.section.Section.TheVariants.{Outside, Loaded, Announced, Again, Lasting, Inside}
 use Rattle.smc_core.specs.Local.{fresh, after}
-use Rattle.smc_core.specs.Machine.{Machine, Steps, Leads, IsOpening, IsOpened, started, local_offer}
+use Rattle.smc_core.specs.Told.{told_along}
+use Rattle.smc_rules.specs.Start.{IsStart}
+use Rattle.smc_model.specs.World.{World, world_through}
+use Rattle.smc_core.specs.Machine.{Machine, Steps, Leads, started, local_offer}
 use Rattle.smc_core.specs.Offer.{offer}
 use Rattle.smc_core.specs.Row.{row_shows}
 use Rattle.smc_rules.proofs.CarryLaws.{by_pass, get-set_same, some-same}
@@ -33,7 +36,7 @@ use Rattle.smc_aside.proofs.StepLists.{leads-join}
 use Rattle.smc_refine.specs.Alone.{AllIdle, Alone, AloneAnswerIsUndisturbed, AloneIsUndisturbed, IsApart, IsBetween, IsLeft, NextUndisturbed, StretchIsUndisturbed, TellsOf, answers_until, owns_after}
 use Rattle.smc_refine.specs.Orders.{logs_of}
 use Rattle.smc_refine.proofs.Onward.{Entered, Onward, entered-after, get-end, get-front, onward-after}
-use Rattle.smc_refine.proofs.Ordered.{Ordered, ordered_along, ordered-first}
+use Rattle.smc_refine.proofs.Ordered.{Ordered, ordered_along, ordered-then}
 use Rattle.smc_refine.proofs.OrderSteps.{log-other, log-there}
 use Rattle.smc_refine.proofs.OwnAlong.{KeptWithin, Own, carries, own-after, until-all}
 use Rattle.smc_refine.proofs.OwnSteps.{Tied, enters, idle-start, is_inside, is_some, leaves, owns_at}
@@ -119,11 +122,15 @@ outside-start shape pass stand o section next c out is =
 fresh-own : (shape : Layout) → Own (fresh shape)
 fresh-own shape = record { tied = (tt, refl); round = refl; within = tt }
 
-module _ (shape : Layout) (opening : Opening) (start : List ℕ) (pass since until : ℕ) (m last : Machine) (later : List (ℕ × Choice))
-    (valid : IsShape shape) (opens : IsOpening opening) (opened : IsOpened shape opening start) (between : IsBetween shape start pass since until m later last)
+module _ (shape : Layout) (opening : Opening) (first : World) (start : List ℕ) (pass since until : ℕ) (m last : Machine) (later : List (ℕ × Choice))
+    (valid : IsShape shape) (starts : IsStart shape opening first start) (between : IsBetween shape start pass since until m later last)
     (idle : AllIdle last.locals) (alone : Alone last.locals pass since until) where
-  ordered : Ordered opening shape m
-  ordered = ordered_along opening shape valid (started shape start) between.earlier m (ordered-first opening shape valid start opens opened) between.before
+  -- what was told until then
+  abbrev order : List (ℕ × Event)
+  order = told_along shape (started shape start) between.earlier m between.before
+
+  ordered : Ordered opening shape first m order (world_through first (events_of order))
+  ordered = ordered-then opening shape valid first m start between.earlier starts between.before
 
   log_then : ℕ → List Event
   log_then by = log_of (logs_of m.locals) by
@@ -132,13 +139,13 @@ module _ (shape : Layout) (opening : Opening) (start : List ℕ) (pass since unt
   log_last by = log_of (logs_of last.locals) by
 
   known : (of by count : ℕ) → Contains (log_of (logs_of m.locals) by) (event.Told of count) → count ≤ length (log_of (logs_of m.locals) of)
-  known of by count has = told-known (logs_of m.locals) ordered.order of by count ordered.one_order has
+  known of by count has = told-known (logs_of m.locals) order of by count ordered.one_order has
 
   module _ (other : ℕ) (l : Local) (ne : other ≢ pass) (here : slice_get m.locals other ≡ Some l) where
     own : Own l
     own =
         let (l0, at, own0) = carries shape other Own (λ k choice o told w p is. own-after shape other k choice o told w p is) (started shape start) between.earlier m (fresh shape) between.before
-        (get-replicate shape.passes other (fresh shape) (omega (arith, slice_get_within m.locals other l here, ordered.backs.count))) (fresh-own shape) in
+        (get-replicate shape.passes other (fresh shape) (omega (arith, slice_get_within m.locals other l here, ordered.holds.backs.count))) (fresh-own shape) in
         subst Own (some-same l0 l (sym at ∙ here)) own0
 
     module _ (end : Local) (there : slice_get last.locals other ≡ Some end) where
@@ -280,7 +287,7 @@ module _ (shape : Layout) (opening : Opening) (start : List ℕ) (pass since unt
       learns_not : (j z : ℕ) → choice ≡ Start (call.Learn j z) → ⊥
       learns_not j z is =
           let (end, there, nothing) = ends in
-          let b = ordered_along opening shape valid m ((by, choice) ∷ []) next ordered (next, step, refl) in
+          let b = ordered_along opening shape valid first m order (world_through first (events_of order)) ((by, choice) ∷ []) next ordered (next, step, refl) in
           let log' : (after shape by step.local choice step.told (row_shows shape step.offered.op m.row)).log ≡ step.local.log ++ event.Told j step.told ∷ [] =
           ap (λ (c : Choice). (after shape by step.local c step.told (row_shows shape step.offered.op m.row)).log) is in
           let last_of : slice_get (step.local.log ++ event.Told j step.told ∷ []) (length step.local.log) ≡ Some (event.Told j step.told) = get-end step.local.log (event.Told j step.told) in
@@ -292,7 +299,7 @@ module _ (shape : Layout) (opening : Opening) (start : List ℕ) (pass since unt
           ∙ get-front (step.local.log ++ event.Told j step.told ∷ []) more (length step.local.log) (event.Told j step.told) last_of in
           let tells : TellsOf pass until (event.Told j step.told) = not_yet by step.local ne step.here end there (event.Told j step.told)
           (subst (λ (k : ℕ). slice_get end.log k ≡ Some (event.Told j step.told)) (ends_here by step.local ne step.here end there) in_end) in
-          let come : step.told ≤ length (log_of (logs_of next.locals) j) = told-known (logs_of next.locals) b.order j by step.told b.one_order
+          let come : step.told ≤ length (log_of (logs_of next.locals) j) = told-known (logs_of next.locals) (order ++ told_along shape m ((by, choice) ∷ []) next (next, step, refl)) j by step.told b.one_order
           (subst (λ (es : List Event). Contains es (event.Told j step.told)) (sym there_next) (has-at (step.local.log ++ event.Told j step.told ∷ []) (length step.local.log) (event.Told j step.told) last_of)) in
           let same : log_of (logs_of next.locals) pass ≡ log_of (logs_of m.locals) pass =
           ap (λ (k : Machine). log_of (logs_of k.locals) pass) step.leads ∙ log-other m.locals by pass (after shape by step.local choice step.told (row_shows shape step.offered.op m.row)) (λ e. ne (sym e)) in
@@ -301,8 +308,8 @@ module _ (shape : Layout) (opening : Opening) (start : List ℕ) (pass since unt
           let least : until ≤ step.told = tells.1 in
           absurd (omega (arith, come_now, before, least))
 
-      starts : (c : Call) → choice ≡ Start c → OutsideCall c
-      starts c is = outside-start shape by step.local.stand step.offered step.local.stand.section step.local.stand.phase c outside (subst (λ (x : Choice). local_offer shape by step.local x ≡ Some step.offered) is step.offers)
+      begins : (c : Call) → choice ≡ Start c → OutsideCall c
+      begins c is = outside-start shape by step.local.stand step.offered step.local.stand.section step.local.stand.phase c outside (subst (λ (x : Choice). local_offer shape by step.local x ≡ Some step.offered) is step.offers)
 
       go : (c : Choice) → choice ≡ c → IsAsideChoice c
       go Go is = tt
@@ -310,18 +317,18 @@ module _ (shape : Layout) (opening : Opening) (start : List ℕ) (pass since unt
       go (Start call.Note) is = tt
       go (Start call.Enter) is = elim (enters_not is) [ ]
       go (Start (call.Learn j z)) is = elim (learns_not j z is) [ ]
-      go (Start call.Leave) is = elim (starts call.Leave is) [ ]
-      go (Start (call.Add c k ws)) is = elim (starts (call.Add c k ws) is) [ ]
-      go (Start (call.Look n)) is = elim (starts (call.Look n) is) [ ]
-      go (Start (call.Read n f)) is = elim (starts (call.Read n f) is) [ ]
-      go (Start (call.Write n f v)) is = elim (starts (call.Write n f v) is) [ ]
-      go (Start (call.Remove n)) is = elim (starts (call.Remove n) is) [ ]
-      go (Start (call.Scan c)) is = elim (starts (call.Scan c) is) [ ]
-      go (Start (call.Next k)) is = elim (starts (call.Next k) is) [ ]
-      go (Start (call.Begin c)) is = elim (starts (call.Begin c) is) [ ]
-      go (Start call.Finish) is = elim (starts call.Finish is) [ ]
-      go (Start call.Cancel) is = elim (starts call.Cancel is) [ ]
-      go (Start (call.Survey c)) is = elim (starts (call.Survey c) is) [ ]
+      go (Start call.Leave) is = elim (begins call.Leave is) [ ]
+      go (Start (call.Add c k ws)) is = elim (begins (call.Add c k ws) is) [ ]
+      go (Start (call.Look n)) is = elim (begins (call.Look n) is) [ ]
+      go (Start (call.Read n f)) is = elim (begins (call.Read n f) is) [ ]
+      go (Start (call.Write n f v)) is = elim (begins (call.Write n f v) is) [ ]
+      go (Start (call.Remove n)) is = elim (begins (call.Remove n) is) [ ]
+      go (Start (call.Scan c)) is = elim (begins (call.Scan c) is) [ ]
+      go (Start (call.Next k)) is = elim (begins (call.Next k) is) [ ]
+      go (Start (call.Begin c)) is = elim (begins (call.Begin c) is) [ ]
+      go (Start call.Finish) is = elim (begins call.Finish is) [ ]
+      go (Start call.Cancel) is = elim (begins call.Cancel is) [ ]
+      go (Start (call.Survey c)) is = elim (begins (call.Survey c) is) [ ]
 
   next_ok : (steps : List (ℕ × Choice)) → later ≡ steps → NextUndisturbed shape pass m steps
   next_ok [] is = tt
@@ -332,14 +339,14 @@ module _ (shape : Layout) (opening : Opening) (start : List ℕ) (pass since unt
 
 -- at each moment of events that are alone
 pub alone-undisturbed : AloneIsUndisturbed
-alone-undisturbed shape opening start pass since until m last later valid opens opened between idle alone = (
-  others shape opening start pass since until m last later valid opens opened between idle alone,
-  next_ok shape opening start pass since until m last later valid opens opened between idle alone later refl,
+alone-undisturbed shape opening first start pass since until m last later valid starts between idle alone = (
+  others shape opening first start pass since until m last later valid starts between idle alone,
+  next_ok shape opening first start pass since until m last later valid starts between idle alone later refl,
 )
 
 -- and so from one such moment to another
-module _ (shape : Layout) (opening : Opening) (start : List ℕ) (pass since until : ℕ) (to last : Machine) (later : List (ℕ × Choice))
-    (valid : IsShape shape) (opens : IsOpening opening) (opened : IsOpened shape opening start) (end : IsBetween shape start pass since until to later last)
+module _ (shape : Layout) (opening : Opening) (first : World) (start : List ℕ) (pass since until : ℕ) (to last : Machine) (later : List (ℕ × Choice))
+    (valid : IsShape shape) (starts : IsStart shape opening first start) (end : IsBetween shape start pass since until to later last)
     (idle : AllIdle last.locals) (alone : Alone last.locals pass since until) where
   stretch : (m : Machine) (during : List (ℕ × Choice)) → IsBetween shape start pass since until m during to → IsUndisturbed pass during
   stretch m [] here = tt
@@ -358,7 +365,7 @@ module _ (shape : Layout) (opening : Opening) (start : List ℕ) (pass since unt
       let long_then : length (log_of (logs_of to.locals) pass) ≡ length (log_of (logs_of next.locals) pass) + length rest = ap length more ∙ length-append (log_of (logs_of next.locals) pass) rest in
       let low : since ≤ length (log_of (logs_of m.locals) pass) = here.has_first in
       let high : length (log_of (logs_of to.locals) pass) < until = end.lacks_last in (
-        ((alone-undisturbed shape opening start pass since until m last ((by, choice) ∷ (during ++ later)) valid opens opened whole idle alone).1).0.0,
+        ((alone-undisturbed shape opening first start pass since until m last ((by, choice) ∷ (during ++ later)) valid starts whole idle alone).1).0.0,
         stretch next during (record {
           earlier = here.earlier ++ (by, choice) ∷ [];
           before = leads-join shape (started shape start) m next here.earlier ((by, choice) ∷ []) here.before (next, step, refl);
@@ -372,7 +379,7 @@ module _ (shape : Layout) (opening : Opening) (start : List ℕ) (pass since unt
       → OthersAside pass m.locals × IsUndisturbed pass during × OthersAside pass to.locals
   stretch-undisturbed m during here =
       let calm : IsUndisturbed pass during = stretch m during here in
-      let aside : OthersAside pass m.locals = (alone-undisturbed shape opening start pass since until m last (during ++ later) valid opens opened (record {
+      let aside : OthersAside pass m.locals = (alone-undisturbed shape opening first start pass since until m last (during ++ later) valid starts (record {
         earlier = here.earlier;
         before = here.before;
         after = leads-join shape m to last during later here.after end.after;
@@ -382,10 +389,10 @@ module _ (shape : Layout) (opening : Opening) (start : List ℕ) (pass since unt
       (aside, calm, others-aside shape pass m to during aside calm here.after)
 
 pub stretches-undisturbed : StretchIsUndisturbed
-stretches-undisturbed shape opening start pass since until m to last during later valid opens opened here end idle alone =
-    stretch-undisturbed shape opening start pass since until to last later valid opens opened end idle alone m during here
+stretches-undisturbed shape opening first start pass since until m to last during later valid starts here end idle alone =
+    stretch-undisturbed shape opening first start pass since until to last later valid starts end idle alone m during here
 
 pub answers-undisturbed : AloneAnswerIsUndisturbed
-answers-undisturbed shape opening start pass answer m last earlier later valid opens opened before after long idle alone =
-    alone-undisturbed shape opening start pass answer.length (answer.length + 1) m last later valid opens opened
+answers-undisturbed shape opening first start pass answer m last earlier later valid starts before after long idle alone =
+    alone-undisturbed shape opening first start pass answer.length (answer.length + 1) m last later valid starts
     (record { earlier = earlier; before = before; after = after; has_first = omega (arith, long); lacks_last = omega (arith, long) }) idle alone

@@ -7,7 +7,7 @@ use Rattle.smc_words.specs.declared.number.Number.{Number}
 use Rattle.smc_model.specs.declared.event.Event.{Event}
 use Rattle.smc_model.specs.declared.event.Event.TheVariants as event
 use Rattle.smc_model.specs.Scans.{PresentIn, PresentThroughout, VisitsRightly, EndsRightly}
-use Rattle.smc_model.specs.World.{World, empty_world, is_present, world_after, world_through}
+use Rattle.smc_model.specs.World.{World, is_present, world_after, world_through}
 use Rattle.smc_model.proofs.HistoryLaws.{world_through-append}
 use Rattle.smc_core.specs.declared.local.Scan.{Scan}
 use Rattle.smc_core.specs.Scan.{new_scan}
@@ -29,13 +29,13 @@ abbrev pub SaysNothing : List Event → ℕ → Type 0
 SaysNothing events k = (x : Event) → Contains events x → spoken x ≢ Some k
 
 -- the events have one begin of the scan, with what was present then, and the visits behind it are those that are marked
-pub record ScanHistory (events : List Event) (began visited : Number → Bool) (k : ℕ) (b : Scan) : Type 0 where
+pub record ScanHistory (first : World) (events : List Event) (began visited : Number → Bool) (k : ℕ) (b : Scan) : Type 0 where
   pub earlier : List Event
   pub later : List Event
   pub split : events ≡ earlier ++ event.Begin k b.coll ∷ later
   pub before : SaysNothing earlier k
   pub once : (coll : ℕ) → ¬ (Contains later (event.Begin k coll))
-  pub present : (n : Number) → began n ≡ is_present (world_through empty_world earlier) n
+  pub present : (n : Number) → began n ≡ is_present (world_through first earlier) n
   pub marked : (n : Number) → visited n ≡ true → Contains later (event.Visit k n)
   pub met : (n : Number) → Contains later (event.Visit k n) → visited n ≡ true
   pub lasts : b.ended ≡ false → ¬ (Contains later (event.End k))
@@ -87,16 +87,16 @@ longer-split events xs ys y e is = ap (λ (l : List Event). l ++ told_of e) is �
 
 -- ---- what an event makes of a history
 
-module _ (events : List Event) (world : World) (m : Marks) (k : ℕ) where
+module _ (first : World) (events : List Event) (world : World) (m : Marks) (k : ℕ) where
   -- the marks of a scan
   abbrev pub HistoryOf : List Event → Marks → Scan → Type 0
-  HistoryOf es marks b = ScanHistory es (marks.began k) (marks.visited k) k b
+  HistoryOf es marks b = ScanHistory first es (marks.began k) (marks.visited k) k b
 
   -- an event of another scan
   pub history-other : (e : Option Event) (b c : Scan) (began visited : Number → Bool) → HistoryOf events m b → c.coll ≡ b.coll → (c.ended ≡ false → b.ended ≡ false)
       → ((y : Event) → e ≡ Some y → spoken y ≢ Some k)
       → ((n : Number) → began n ≡ m.began k n) → ((n : Number) → visited n ≡ m.visited k n)
-      → ScanHistory (events ++ told_of e) began visited k c
+      → ScanHistory first (events ++ told_of e) began visited k c
   history-other e b c began visited h coll end other bg vs = record {
     earlier = h.earlier;
     later = h.later ++ told_of e;
@@ -157,7 +157,7 @@ module _ (events : List Event) (world : World) (m : Marks) (k : ℕ) where
   }
 
   -- its begin
-  pub history-begin : (coll : ℕ) → world ≡ world_through empty_world events → SaysNothing events k
+  pub history-begin : (coll : ℕ) → world ≡ world_through first events → SaysNothing events k
       → HistoryOf (events ++ event.Begin k coll ∷ []) (marks_told world m (Some (event.Begin k coll))) (new_scan k coll)
   history-begin coll is nothing = record {
     earlier = events;
@@ -165,7 +165,7 @@ module _ (events : List Event) (world : World) (m : Marks) (k : ℕ) where
     split = refl;
     before = nothing;
     once = λ d at. omega (arith, at.1);
-    present = λ n. subst (λ (z : Bool). (if z then is_present world n else m.began k n) ≡ is_present (world_through empty_world events) n) (sym itself) (ap (λ (w : World). is_present w n) is);
+    present = λ n. subst (λ (z : Bool). (if z then is_present world n else m.began k n) ≡ is_present (world_through first events) n) (sym itself) (ap (λ (w : World). is_present w n) is);
     marked = λ n t. let no : false ≡ true = subst (λ (z : Bool). (if z then false else m.visited k n) ≡ true) itself t in absurd (cc);
     met = λ n at. absurd (omega (arith, at.1));
     lasts = λ going at. omega (arith, at.1);
@@ -177,8 +177,8 @@ module _ (events : List Event) (world : World) (m : Marks) (k : ℕ) where
   -- ---- the rule of scans
 
   -- a visit of an open scan, the first of an object that is present
-  pub visits-rightly : (n : Number) (b : Scan) → HistoryOf events m b → b.ended ≡ false → b.coll ≡ n.coll → world ≡ world_through empty_world events → IsHome world
-      → m.visited k n ≡ false → is_present world n ≡ true → VisitsRightly empty_world events k n
+  pub visits-rightly : (n : Number) (b : Scan) → HistoryOf events m b → b.ended ≡ false → b.coll ≡ n.coll → world ≡ world_through first events → IsHome world
+      → m.visited k n ≡ false → is_present world n ≡ true → VisitsRightly first events k n
   visits-rightly n b h going coll at home new here = record {
     coll = b.coll;
     begun = subst (λ (l : List Event). Contains l (event.Begin k b.coll)) (sym h.split) (Contains-append_right h.earlier (event.Begin k b.coll ∷ h.later) (event.Begin k b.coll) (0, omega arith, refl));
@@ -194,16 +194,16 @@ module _ (events : List Event) (world : World) (m : Marks) (k : ℕ) where
   }
 
   -- an end of a scan that has visited what was present when it began and is present now
-  pub ends-rightly : (b : Scan) → HistoryOf events m b → world ≡ world_through empty_world events → IsHome world
-      → ((n : Number) → n.coll ≡ b.coll → m.began k n ≡ true → is_present world n ≡ true → m.visited k n ≡ true) → EndsRightly empty_world events k
+  pub ends-rightly : (b : Scan) → HistoryOf events m b → world ≡ world_through first events → IsHome world
+      → ((n : Number) → n.coll ≡ b.coll → m.began k n ≡ true → is_present world n ≡ true → m.visited k n ≡ true) → EndsRightly first events k
   ends-rightly b h at home fits earlier coll later split n throughout =
       let (front, same, behind) = one-split k b.coll coll h.earlier h.later earlier later (λ d x. h.before (event.Begin k d) x refl) h.once (sym h.split ∙ split) in
-      let first : PresentIn (world_through empty_world earlier) coll n = first-in later (world_through empty_world earlier) throughout in
+      let begun : PresentIn (world_through first earlier) coll n = first-in later (world_through first earlier) throughout in
       let last : PresentIn world coll n = subst (λ (w : World). PresentIn w coll n)
-      (sym (world_through-append empty_world earlier (event.Begin k coll ∷ later)) ∙ (ap (world_through empty_world) (sym split) ∙ sym at)) (last-in later (world_through empty_world earlier) throughout) in
+      (sym (world_through-append first earlier (event.Begin k coll ∷ later)) ∙ (ap (world_through first) (sym split) ∙ sym at)) (last-in later (world_through first earlier) throughout) in
       subst (λ (l : List Event). Contains l (event.Visit k n)) behind (h.marked n
       (fits n (sym (in-home world coll n home last) ∙ sym same)
-      (h.present n ∙ subst (λ (l : List Event). is_present (world_through empty_world l) n ≡ true) (sym front) (in-present (world_through empty_world earlier) coll n first))
+      (h.present n ∙ subst (λ (l : List Event). is_present (world_through first l) n ≡ true) (sym front) (in-present (world_through first earlier) coll n begun))
       (in-present world coll n last)))
     where
       first-in : (es : List Event) (w : World) → PresentThroughout w coll n es → PresentIn w coll n

@@ -60,7 +60,7 @@ home-added world n coll words of home x o is = go (eq_by_cmp number_cmp x n) ref
         ap (λ (z : Object). z.coll) (sym same) ∙ (sym of ∙ ap (λ (z : Number). z.coll) (sym (same_number x n t)))
     go false t e = home x o e
 
-home-after : (world : World) (e : Event) → IsAllowed world e → IsHome world → IsHome (world_after world e)
+pub home-after : (world : World) (e : Event) → IsAllowed world e → IsHome world → IsHome (world_after world e)
 home-after world (event.Add n coll words) may home = home-added world n coll words may.1 home
 home-after world (event.Write n field value) may home = home-changed world n (λ (o : Object). with_word o field value) (λ o. refl) home
 home-after world (event.Remove n first) may home = home-changed world n removed (λ o. refl) home
@@ -78,6 +78,10 @@ home-through : (world : World) (events : List Event) (last : World) → Replay w
 home-through world [] last replay home = subst IsHome (sym replay) home
 home-through world (x ∷ events) last replay home = home-through (world_after world x) events last replay.1 (home-after world x replay.0 home)
 
--- so it is where events lead from the empty world
-pub home-reached : (events : List Event) (last : World) → Replay empty_world events last → IsHome last
-home-reached events last replay = home-through empty_world events last replay (λ n o is. let nothing = object_of-empty n in absurd (cc))
+-- so it is where events lead from such a world
+pub home-reached : (first : World) (events : List Event) (last : World) → IsHome first → Replay first events last → IsHome last
+home-reached first events last home replay = home-through first events last replay home
+
+-- and in the empty one
+pub home-empty : IsHome empty_world
+home-empty n o is = let nothing = object_of-empty n in absurd (cc)

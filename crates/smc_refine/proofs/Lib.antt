@@ -15,3 +15,6 @@ pub mod ToldKnown
 pub mod Onward
 pub mod AloneLaws
 pub mod WorkedLaws
+pub mod SizeLaws
+pub mod WidthSteps
+pub mod GoingOn

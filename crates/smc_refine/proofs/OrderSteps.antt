@@ -43,15 +43,11 @@ use Rattle.smc_core.specs.Step.{goes, goes_telling, ends, tells}
 use Rattle.smc_core.specs.Words.{state_of, dir_of, is_gone}
 use Rattle.smc_core.specs.Change.{change, go_change, start_change, next_started, look_started, remove_started}
 use Rattle.smc_core.specs.Local.{after, logged, notes_after}
+use Rattle.smc_core.specs.Told.{adds}
 use Rattle.smc_rules.proofs.CarryLaws.{some-same}
 use Rattle.smc_refine.specs.Orders.{logs_of}
 
--- what one step adds to the order
-abbrev pub adds : ℕ → Option Event → List (ℕ × Event)
-adds pass None = []
-adds pass (Some event) = (pass, event) ∷ []
-
--- the events of that
+-- the events that a step tells
 abbrev pub told_of : Option Event → List Event
 told_of None = []
 told_of (Some event) = event ∷ []

@@ -5,7 +5,7 @@ use Rattle.std.proofs.lemmas.Bool.{ne_eqb}
 use Rattle.smc_words.specs.declared.layout.TheConstants.{PASSES}
 use Rattle.smc_model.specs.declared.event.Event.{Event}
 use Rattle.smc_model.specs.declared.event.Event.TheVariants as event
-use Rattle.smc_model.specs.World.{World, empty_world, is_present, world_through}
+use Rattle.smc_model.specs.World.{World, is_present, world_through}
 use Rattle.smc_core.specs.declared.local.Scan.{Scan}
 use Rattle.smc_core.specs.Scan.{scan_of, scan_number, new_scan}
 use Rattle.smc_core.specs.Words.{same_number}
@@ -96,18 +96,18 @@ module _ (pass : ℕ) (scans : List Scan) (begun : ℕ) (later : List Scan) (cou
         go (Some event.Leave) t = more t.0 t.1
         go (Some (event.Told p c)) t = more t.0 t.1
 
-    module _ (low : pass < PASSES) (events : List Event) (world : World) (m : Marks)
-        (history : (k : ℕ) (b : Scan) → scan_of scans k ≡ Some b → ScanHistory events (m.began k) (m.visited k) k b)
-        (at : world ≡ world_through empty_world events) (unspoken : SaysNothing events (scan_number pass begun)) where
+    module _ (low : pass < PASSES) (first : World) (events : List Event) (world : World) (m : Marks)
+        (history : (k : ℕ) (b : Scan) → scan_of scans k ≡ Some b → ScanHistory first events (m.began k) (m.visited k) k b)
+        (at : world ≡ world_through first events) (unspoken : SaysNothing events (scan_number pass begun)) where
       -- each has its history, with the event of the step
       pub own-history : (e : Option Event) → ScansTold pass scans begun later count e
-          → (k : ℕ) (b : Scan) → scan_of later k ≡ Some b → ScanHistory (events ++ told_of e) ((marks_told world m e).began k) ((marks_told world m e).visited k) k b
+          → (k : ℕ) (b : Scan) → scan_of later k ≡ Some b → ScanHistory first (events ++ told_of e) ((marks_told world m e).began k) ((marks_told world m e).visited k) k b
       own-history e t k b is = go e t
         where
           -- an event of no scan
-          quiet : (e : Option Event) → GoOn scans later → ((y : Event) → e ≡ Some y → spoken y ≢ Some k) → ScanHistory (events ++ told_of e) (m.began k) (m.visited k) k b
+          quiet : (e : Option Event) → GoOn scans later → ((y : Event) → e ≡ Some y → spoken y ≢ Some k) → ScanHistory first (events ++ told_of e) (m.began k) (m.visited k) k b
           quiet e g other = let (old, was, coll, end) = g k b is in
-              history-other events world m k e old b (m.began k) (m.visited k) (history k old was) coll (λ z. sym end ∙ z) other (λ n. refl) (λ n. refl)
+              history-other first events world m k e old b (m.began k) (m.visited k) (history k old was) coll (λ z. sym end ∙ z) other (λ n. refl) (λ n. refl)
 
           -- an event of another one
           another : (x : Event) (j : ℕ) → spoken x ≡ Some j → k ≢ j → (y : Event) → Some x ≡ Some y → spoken y ≢ Some k
@@ -117,36 +117,36 @@ module _ (pass : ℕ) (scans : List Scan) (begun : ℕ) (later : List Scan) (cou
           silent x nothing y same says = let one : x ≡ y = cc in let two : None ≡ Some k = sym nothing ∙ (ap spoken one ∙ says) in absurd (cc)
 
           go : (e : Option Event) → ScansTold pass scans begun later count e
-              → ScanHistory (events ++ told_of e) ((marks_told world m e).began k) ((marks_told world m e).visited k) k b
+              → ScanHistory first (events ++ told_of e) ((marks_told world m e).began k) ((marks_told world m e).visited k) k b
           go None t = quiet None t.0 (λ y none. absurd (cc))
           go (Some (event.Begin j c)) t = elim (begun-was scans (new_scan j c) k b (subst (λ (l : List Scan). scan_of l k ≡ Some b) t.1 is)) [
             | inl old ↦
                 let (l, below, eq) = numbers k b old in
                 let ne : k ≢ j = λ same. let (i, one) = numbers-apart pass pass l begun (low) (low) (sym eq ∙ (same ∙ t.0)) in omega (arith, below, one) in
-                history-other events world m k (Some (event.Begin j c)) b b ((marks_told world m (Some (event.Begin j c))).began k) ((marks_told world m (Some (event.Begin j c))).visited k)
+                history-other first events world m k (Some (event.Begin j c)) b b ((marks_told world m (Some (event.Begin j c))).began k) ((marks_told world m (Some (event.Begin j c))).visited k)
                 (history k b old) refl (λ z. z) (another (event.Begin j c) j refl ne)
                 (λ n. ap (λ (z : Bool). if z then is_present world n else m.began k n) (ne_eqb k j ne))
                 (λ n. ap (λ (z : Bool). if z then false else m.visited k n) (ne_eqb k j ne))
             | inr same ↦
                 let number : j ≡ k = ap (λ (z : Scan). z.number) same ∙ scan_of-number later k b is in
-                subst (λ (z : Scan). ScanHistory (events ++ event.Begin j c ∷ []) ((marks_told world m (Some (event.Begin j c))).began k) ((marks_told world m (Some (event.Begin j c))).visited k) k z) same
-                (subst (λ (z : ℕ). ScanHistory (events ++ event.Begin j c ∷ []) ((marks_told world m (Some (event.Begin j c))).began z) ((marks_told world m (Some (event.Begin j c))).visited z) z (new_scan j c)) number
-                (history-begin events world m j c at (subst (SaysNothing events) (sym t.0) unspoken)))
+                subst (λ (z : Scan). ScanHistory first (events ++ event.Begin j c ∷ []) ((marks_told world m (Some (event.Begin j c))).began k) ((marks_told world m (Some (event.Begin j c))).visited k) k z) same
+                (subst (λ (z : ℕ). ScanHistory first (events ++ event.Begin j c ∷ []) ((marks_told world m (Some (event.Begin j c))).began z) ((marks_told world m (Some (event.Begin j c))).visited z) z (new_scan j c)) number
+                (history-begin first events world m j c at (subst (SaysNothing events) (sym t.0) unspoken)))
           ]
           go (Some (event.Visit j n)) t = by_pass k j
               (λ same. let (old, was, coll, end) = t.1 k b is in
-              subst (λ (z : ℕ). ScanHistory (events ++ event.Visit z n ∷ []) ((marks_told world m (Some (event.Visit z n))).began k) ((marks_told world m (Some (event.Visit z n))).visited k) k b) same
-              (history-visit events world m k n old b (history k old was) coll end))
+              subst (λ (z : ℕ). ScanHistory first (events ++ event.Visit z n ∷ []) ((marks_told world m (Some (event.Visit z n))).began k) ((marks_told world m (Some (event.Visit z n))).visited k) k b) same
+              (history-visit first events world m k n old b (history k old was) coll end))
               (λ ne. let (old, was, coll, end) = t.1 k b is in
-              history-other events world m k (Some (event.Visit j n)) old b (m.began k) ((marks_told world m (Some (event.Visit j n))).visited k)
+              history-other first events world m k (Some (event.Visit j n)) old b (m.began k) ((marks_told world m (Some (event.Visit j n))).visited k)
               (history k old was) coll (λ z. sym end ∙ z) (another (event.Visit j n) j refl ne) (λ x. refl)
               (λ x. ap (λ (z : Bool). if z && same_number x n then true else m.visited k x) (ne_eqb k j ne)))
           go (Some (event.End j)) t = by_pass k j
               (λ same. let (old, was, coll, end) = t.1 k b is in
-              subst (λ (z : ℕ). ScanHistory (events ++ event.End z ∷ []) (m.began k) (m.visited k) k b) same
-              (history-end events world m k old b (history k old was) coll (elim end [ inl over ↦ over | inr other ↦ absurd (other.0 same) ])))
+              subst (λ (z : ℕ). ScanHistory first (events ++ event.End z ∷ []) (m.began k) (m.visited k) k b) same
+              (history-end first events world m k old b (history k old was) coll (elim end [ inl over ↦ over | inr other ↦ absurd (other.0 same) ])))
               (λ ne. let (old, was, coll, end) = t.1 k b is in
-              history-other events world m k (Some (event.End j)) old b (m.began k) (m.visited k)
+              history-other first events world m k (Some (event.End j)) old b (m.began k) (m.visited k)
               (history k old was) coll (λ z. elim end [ inl over ↦ absurd (cc) | inr other ↦ sym other.1 ∙ z ]) (another (event.End j) j refl ne) (λ x. refl) (λ x. refl))
           go (Some (event.Add n c ws)) t = quiet (Some (event.Add n c ws)) t.0 (silent (event.Add n c ws) refl)
           go (Some (event.Look n x)) t = quiet (Some (event.Look n x)) t.0 (silent (event.Look n x) refl)

@@ -11,7 +11,7 @@ use Rattle.smc_model.specs.declared.event.Event.{Event}
 use Rattle.smc_model.specs.declared.event.Event.TheVariants as event
 use Rattle.smc_model.specs.declared.object.Object.{Object}
 use Rattle.smc_model.specs.Scans.{EachAfter, KeepsScanRule, ScansOnce}
-use Rattle.smc_model.specs.World.{empty_world, is_present, object_of, world_through}
+use Rattle.smc_model.specs.World.{World, is_present, object_of, world_through}
 use Rattle.smc_model.proofs.HistoryLaws.{EachAfter-join}
 use Rattle.smc_core.specs.declared.call.Choice.{Choice}
 use Rattle.smc_core.specs.declared.local.Opening.{Opening}
@@ -19,9 +19,10 @@ use Rattle.smc_core.specs.declared.local.Scan.{Scan}
 use Rattle.smc_core.specs.declared.local.Stand.{Stand}
 use Rattle.smc_core.specs.declared.op.Offer.{Offer}
 use Rattle.smc_core.specs.Scan.{scan_of, scan_number}
-use Rattle.smc_rules.specs.Memory.{seen}
+use Rattle.smc_rules.specs.Memory.{Memory, seen}
+use Rattle.smc_rules.specs.Start.{starting}
 use Rattle.smc_rules.specs.Reads.{object}
-use Rattle.smc_rules.specs.State.{State, first_state, stand_change, stand_offer, stand_then, state_after}
+use Rattle.smc_rules.specs.State.{State, stand_change, stand_offer, stand_then, state_after}
 use Rattle.smc_rules.proofs.CarryLaws.{by_pass, put_stand-same, put_stand-other}
 use Rattle.smc_agreement.proofs.CrossLaws.{by_true}
 use Rattle.smc_inv_scan.specs.Marks.{Marks, MarksAgree, FitsMarks, no_marks, marks_told, put_marks}
@@ -36,19 +37,19 @@ use Rattle.smc_refine.proofs.OwnScans.{IsOf, counted, numbers-apart, own-history
 use Rattle.smc_refine.proofs.ScanSteps.{IsOpen, ScansTold, StepScans}
 
 -- what the events say of the scans that go on, and that they keep the rule
-pub record ScansKnown (shape : Layout) (s : State) (events : List Event) : Type 0 where
+pub record ScansKnown (first : World) (shape : Layout) (s : State) (events : List Event) : Type 0 where
   pub marks : ℕ → Marks
   pub agree : MarksAgree shape s marks
-  pub history : (i k : ℕ) (b : Scan) → i < shape.passes → scan_of (s.stands i).scans k ≡ Some b → ScanHistory events ((marks i).began k) ((marks i).visited k) k b
+  pub history : (i k : ℕ) (b : Scan) → i < shape.passes → scan_of (s.stands i).scans k ≡ Some b → ScanHistory first events ((marks i).began k) ((marks i).visited k) k b
   -- no two scans have one number, and no event speaks of one that has not begun
   pub numbers : (i k : ℕ) (b : Scan) → i < shape.passes → scan_of (s.stands i).scans k ≡ Some b → IsOf i (s.stands i).begun k
   pub spoken_of : (x : Event) (k : ℕ) → Contains events x → spoken x ≡ Some k → (i : ℕ) × (i < shape.passes) × IsOf i (s.stands i).begun k
   -- a scan that a call goes on with has not ended
   pub opens : (i : ℕ) → i < shape.passes → IsOpen (s.stands i).scans (s.stands i).phase
-  pub once : ScansOnce empty_world events
+  pub once : ScansOnce first events
 
-module _ (opening : Opening) (shape : Layout) (valid : IsShape shape) (s : State) (h : Everything opening shape s) (events : List Event) (known : ScansKnown shape s events)
-    (at : s.world ≡ world_through empty_world events) (home : IsHome s.world)
+module _ (first : World) (opening : Opening) (shape : Layout) (valid : IsShape shape) (s : State) (h : Everything opening shape s) (events : List Event) (known : ScansKnown first shape s events)
+    (at : s.world ≡ world_through first events) (home : IsHome s.world)
     (pass : ℕ) (choice : Choice) (o : Offer) (told : ℕ) (within : pass < shape.passes) (offers : stand_offer shape pass (s.stands pass) choice ≡ Some o) where
   -- what the step tells
   abbrev e : Option Event
@@ -85,14 +86,14 @@ module _ (opening : Opening) (shape : Layout) (valid : IsShape shape) (s : State
 
   -- the event keeps the rule of scans
   rule-kept : (e : Option Event) → ScansTold pass (s.stands pass).scans (s.stands pass).begun new.scans new.begun e → FitsMarks shape s known.marks pass e
-      → EachAfter (KeepsScanRule empty_world) events (told_of e)
+      → EachAfter (KeepsScanRule first) events (told_of e)
   rule-kept None t fits = tt
   rule-kept (Some (event.Visit k n)) t fits =
       let (b, found, going, coll) = t.0 in
-      (visits-rightly events s.world m k n b (known.history pass k b within found) going coll at home fits.0 fits.1, tt)
+      (visits-rightly first events s.world m k n b (known.history pass k b within found) going coll at home fits.0 fits.1, tt)
   rule-kept (Some (event.End k)) t fits =
       let (b, found, going, coll) = t.0.1 in (
-        ends-rightly events s.world m k b (known.history pass k b within found) at home (λ n of bg here.
+        ends-rightly first events s.world m k b (known.history pass k b within found) at home (λ n of bg here.
             let same : object n.incarnation n.entry b.coll ≡ n = ap (object n.incarnation n.entry) (sym of) in
             subst (λ (z : Number). m.visited k z ≡ true) same
             (fits b n.incarnation n.entry found (subst (λ (z : ℕ). n.entry < entries_of shape z) of (entered n here))
@@ -138,15 +139,15 @@ module _ (opening : Opening) (shape : Layout) (valid : IsShape shape) (s : State
       (subst (λ (z : ℕ). IsOf z new.begun k) (sym same) (own-numbers pass (s.stands pass).scans (s.stands pass).begun new.scans new.begun (λ j c. known.numbers pass j c within) e viewed.told k b (subst (λ (z : Stand). scan_of z.scans k ≡ Some b) (mine i same) is))))
       (λ apart. subst (λ (z : Stand). IsOf i z.begun k) (sym (others i apart)) (known.numbers i k b lt (subst (λ (z : Stand). scan_of z.scans k ≡ Some b) (others i apart) is)))
 
-  history' : (i k : ℕ) (b : Scan) → i < shape.passes → scan_of (after.stands i).scans k ≡ Some b → ScanHistory (events ++ told_of e) ((marks' i).began k) ((marks' i).visited k) k b
+  history' : (i k : ℕ) (b : Scan) → i < shape.passes → scan_of (after.stands i).scans k ≡ Some b → ScanHistory first (events ++ told_of e) ((marks' i).began k) ((marks' i).visited k) k b
   history' i k b lt is = by_pass i pass
-      (λ same. subst (λ (z : Marks). ScanHistory (events ++ told_of e) (z.began k) (z.visited k) k b) (sym (put-mine known.marks pass i (marks_told s.world m e) same))
-      (own-history pass (s.stands pass).scans (s.stands pass).begun new.scans new.begun (λ j c. known.numbers pass j c within) (low pass within) events s.world m (λ j c. known.history pass j c within) at unspoken e viewed.told k b (subst (λ (z : Stand). scan_of z.scans k ≡ Some b) (mine i same) is)))
+      (λ same. subst (λ (z : Marks). ScanHistory first (events ++ told_of e) (z.began k) (z.visited k) k b) (sym (put-mine known.marks pass i (marks_told s.world m e) same))
+      (own-history pass (s.stands pass).scans (s.stands pass).begun new.scans new.begun (λ j c. known.numbers pass j c within) (low pass within) first events s.world m (λ j c. known.history pass j c within) at unspoken e viewed.told k b (subst (λ (z : Stand). scan_of z.scans k ≡ Some b) (mine i same) is)))
       (λ apart.
       let there : scan_of (s.stands i).scans k ≡ Some b = subst (λ (z : Stand). scan_of z.scans k ≡ Some b) (others i apart) is in
       let (j, below, eq) = known.numbers i k b lt there in
-      subst (λ (z : Marks). ScanHistory (events ++ told_of e) (z.began k) (z.visited k) k b) (sym (put-other known.marks pass i (marks_told s.world m e) apart))
-      (history-other events s.world (known.marks i) k e b b ((known.marks i).began k) ((known.marks i).visited k) (known.history i k b lt there) refl (λ z. z)
+      subst (λ (z : Marks). ScanHistory first (events ++ told_of e) (z.began k) (z.visited k) k b) (sym (put-other known.marks pass i (marks_told s.world m e) apart))
+      (history-other first events s.world (known.marks i) k e b b ((known.marks i).began k) ((known.marks i).visited k) (known.history i k b lt there) refl (λ z. z)
       (λ y tells says.
       let (l, under, number) = own-number pass (s.stands pass).scans (s.stands pass).begun new.scans new.begun (λ j c. known.numbers pass j c within) y k (subst (ScansTold pass (s.stands pass).scans (s.stands pass).begun new.scans new.begun) tells viewed.told) says in
       apart (numbers-apart i pass j l (low i lt) (low pass within) (sym eq ∙ number)).0)
@@ -169,7 +170,7 @@ module _ (opening : Opening) (shape : Layout) (valid : IsShape shape) (s : State
   ]
 
   -- what is known of scans then, with the event of the step
-  pub scans_known-after : ScansKnown shape after (events ++ told_of e)
+  pub scans_known-after : ScansKnown first shape after (events ++ told_of e)
   scans_known-after = record {
     marks = marks';
     agree = marks_kept shape s known.marks pass choice o told within h.whole.ranges h.whole.rounds h.whole.agrees h.scans h.records.is_here known.agree offers;
@@ -179,14 +180,14 @@ module _ (opening : Opening) (shape : Layout) (valid : IsShape shape) (s : State
     opens = λ i lt. by_pass i pass
         (λ same. subst (λ (z : Stand). IsOpen z.scans z.phase) (sym (mine i same)) viewed.is_open)
         (λ apart. subst (λ (z : Stand). IsOpen z.scans z.phase) (sym (others i apart)) (known.opens i lt));
-    once = EachAfter-join (KeepsScanRule empty_world) [] events (told_of e) known.once (rule-kept e viewed.told fits);
+    once = EachAfter-join (KeepsScanRule first) [] events (told_of e) known.once (rule-kept e viewed.told fits);
   }
 
 -- at first there are no scans
-pub scans_known-first : (opening : Opening) (shape : Layout) → ScansKnown shape (first_state shape opening) []
-scans_known-first opening shape = record {
+pub scans_known-first : (first : World) (shape : Layout) (memory : Memory) → ScansKnown first shape (starting shape memory first) []
+scans_known-first first shape memory = record {
   marks = no_marks;
-  agree = marks_begun shape opening;
+  agree = marks_begun shape memory first;
   history = λ i k b lt is. absurd (cc);
   numbers = λ i k b lt is. absurd (cc);
   spoken_of = λ x k is says. absurd (omega (arith, is.1));

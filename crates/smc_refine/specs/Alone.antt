@@ -11,7 +11,9 @@ use Rattle.smc_core.specs.declared.local.Answer.{Answer}
 use Rattle.smc_core.specs.declared.local.Local.{Local}
 use Rattle.smc_core.specs.declared.local.Opening.{Opening}
 use Rattle.smc_core.specs.declared.phase.Phase.TheVariants.{Idle}
-use Rattle.smc_core.specs.Machine.{Machine, Steps, Leads, IsOpening, IsOpened, started}
+use Rattle.smc_rules.specs.Start.{IsStart}
+use Rattle.smc_model.specs.World.{World}
+use Rattle.smc_core.specs.Machine.{Machine, Steps, Leads, started}
 use Rattle.smc_aside.specs.Aside.{OthersAside, IsUndisturbed}
 use Rattle.smc_refine.specs.Orders.{logs_of}
 
@@ -93,21 +95,21 @@ NextUndisturbed shape pass m (step ∷ later) =
 
 -- at such a moment of events that are alone the others stand aside, and the next step is undisturbed
 abbrev pub AloneIsUndisturbed : Type 0
-AloneIsUndisturbed = (shape : Layout) (opening : Opening) (start : List ℕ) (pass since until : ℕ) (m last : Machine) (later : List (ℕ × Choice))
-    → IsShape shape → IsOpening opening → IsOpened shape opening start → IsBetween shape start pass since until m later last
+AloneIsUndisturbed = (shape : Layout) (opening : Opening) (first : World) (start : List ℕ) (pass since until : ℕ) (m last : Machine) (later : List (ℕ × Choice))
+    → IsShape shape → IsStart shape opening first start → IsBetween shape start pass since until m later last
     → AllIdle last.locals → Alone last.locals pass since until
     → OthersAside pass m.locals × NextUndisturbed shape pass m later
 
 -- from one such moment to another all steps are undisturbed
 abbrev pub StretchIsUndisturbed : Type 0
-StretchIsUndisturbed = (shape : Layout) (opening : Opening) (start : List ℕ) (pass since until : ℕ) (m to last : Machine) (during later : List (ℕ × Choice))
-    → IsShape shape → IsOpening opening → IsOpened shape opening start → IsBetween shape start pass since until m during to
+StretchIsUndisturbed = (shape : Layout) (opening : Opening) (first : World) (start : List ℕ) (pass since until : ℕ) (m to last : Machine) (during later : List (ℕ × Choice))
+    → IsShape shape → IsStart shape opening first start → IsBetween shape start pass since until m during to
     → IsBetween shape start pass since until to later last → AllIdle last.locals → Alone last.locals pass since until
     → OthersAside pass m.locals × IsUndisturbed pass during × OthersAside pass to.locals
 
 -- at each moment at which the log has the length of an answer that is alone the others stand aside
 abbrev pub AloneAnswerIsUndisturbed : Type 0
-AloneAnswerIsUndisturbed = (shape : Layout) (opening : Opening) (start : List ℕ) (pass : ℕ) (answer : Answer) (m last : Machine) (earlier later : List (ℕ × Choice))
-    → IsShape shape → IsOpening opening → IsOpened shape opening start → Leads shape (started shape start) earlier m → Leads shape m later last
+AloneAnswerIsUndisturbed = (shape : Layout) (opening : Opening) (first : World) (start : List ℕ) (pass : ℕ) (answer : Answer) (m last : Machine) (earlier later : List (ℕ × Choice))
+    → IsShape shape → IsStart shape opening first start → Leads shape (started shape start) earlier m → Leads shape m later last
     → length (log_of (logs_of m.locals) pass) ≡ answer.length → AllIdle last.locals → IsAloneAnswer last.locals pass answer
     → OthersAside pass m.locals × NextUndisturbed shape pass m later

@@ -1,12 +1,24 @@
 //! Each function is a theorem over the definitions in `specs`, and does nothing.
 ghost use Rattle.smc_refine.specs.Alone.{AloneIsUndisturbed, AloneAnswerIsUndisturbed, StretchIsUndisturbed};
 ghost use Rattle.smc_refine.specs.Worked.{cancels_its_round, enters_too_soon, keeps_its_round, told_too_soon, works_between, IsAloneAfter, IsNotAloneAfter};
-ghost use Rattle.smc_refine.specs.Orders.{LogsAreLawful};
+ghost use Rattle.smc_refine.specs.Orders.{HistoriesAreLawful, HistoriesGoOn, HistoriesHaveEvents, HistoriesHaveMoments};
 
-/// After every list of steps the logs of all passes are lawful: they have one order, in which scans visit once, and which
-/// replays from the empty world to the world of the state that is reached.
-pub fn logs_are_lawful()
-    ensures { LogsAreLawful }
+/// From each start, after every list of steps, what the steps have told, in their order, has each log as its pass has it,
+/// replays from the first world, and visits once by each scan; all three rules hold of the machine in the world to which
+/// this leads, whose objects fit the shape.
+pub fn histories_are_lawful()
+    ensures { HistoriesAreLawful }
+{}
+
+/// A history goes on with every step that is taken from its machine, and its order with what the steps tell.
+pub fn histories_go_on()
+    ensures { HistoriesGoOn }
+{}
+
+/// A history was one behind each of its steps, and where each of its events was told.
+pub fn histories_have_moments()
+    ensures steps { HistoriesHaveMoments }
+    ensures events { HistoriesHaveEvents }
 {}
 
 /// Where events of a log are alone, by the logs and answers of a last moment without calls in progress, all other passes

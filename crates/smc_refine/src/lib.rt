@@ -2,8 +2,8 @@
 //! alone, by the logs and the answers, nobody disturbed it.
 //!
 //! `laws` has the theorems. `specs/Orders.antt` says the first: the events of a list of steps, in the order of the steps,
-//! have each log as that pass has it, know what was told, lead from the empty world to the world of the state reached, and
-//! visit by each scan, once, what is present throughout. `specs/Alone.antt` says the other: what logs and answers have to
+//! have each log as that pass has it, know what was told, lead from the first world to that of the state reached, and
+//! visit by each scan, once, what is present throughout; a history goes on, and is cut at its steps and its events. `specs/Alone.antt` says the other: what logs and answers have to
 //! tell for events of a log to be alone, and that all other passes stood aside then; `specs/Worked.antt` has schedules.
 //! Callers may rely on all of these laws. `smc_census` and `smc_packing` stand above.
 //!

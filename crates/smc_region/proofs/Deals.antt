@@ -13,6 +13,8 @@ use Rattle.smc_shape.specs.Layout.{Layout, IsShape, words_of}
 use Rattle.smc_core.specs.declared.local.Local.{Local}
 use Rattle.smc_core.specs.declared.local.Opening.{Opening}
 use Rattle.smc_core.specs.Local.{fresh}
+use Rattle.smc_model.specs.World.{empty_world}
+use Rattle.smc_rules.proofs.HistoryLaws.{new_starts}
 use Rattle.smc_core.specs.Machine.{IsOpening, IsOpened, started}
 use Rattle.smc_region.specs.declared.law.View.{View}
 use Rattle.smc_region.specs.Callers.{IsOutside, IsSeatOf, caller_of, new_caller}
@@ -20,7 +22,7 @@ use Rattle.smc_region.specs.Reached.{IsReached}
 use Rattle.smc_region.specs.Rule.{Fits, HoldsLocal}
 use Rattle.smc_region.specs.Views.{one, numbered, holding, first_view, behind, front, sole}
 use Rattle.smc_region.proofs.Keeps.{Rule}
-use Rattle.smc_region.proofs.StepLaws.{get-longer}
+use Rattle.smc_region.proofs.StepLaws.{get-longer, reached_by}
 
 -- what a list with one more at its end has
 pub at_snoc_where : {A : Type 0} (xs : List A) (b : A) (j : ℕ) (v : A) → get_elem? (xs ++ b ∷ []) j ≡ some v → ((j ≡ length xs) × (b ≡ v)) ⊎ ((j < length xs) × (get_elem? xs j ≡ some v))
@@ -42,7 +44,7 @@ module _ (shape : Layout) where
 
   -- a region that opens is in a state that is reached
   pub opened_is_reached : (opens : Opening) (row : List ℕ) → IsShape shape → IsOpening opens → IsOpened shape opens row → IsReached shape opens row (started shape row).locals
-  opened_is_reached opens row valid is opened = record { start = row; valid = valid; opens = is; opened = opened; reach = ([], refl) }
+  opened_is_reached opens row valid is opened = reached_by shape opens empty_world (started shape row) valid (record { start = row; starts = new_starts shape opens row is opened; steps = []; leads = refl })
 
   pub opens_rule : (opens : Opening) (row : List ℕ) → IsShape shape → IsOpening opens → IsOpened shape opens row → Rule shape opens (opening row [] (first_view shape))
   opens_rule opens row valid is opened = record {

@@ -23,18 +23,19 @@ use Rattle.smc_rules.specs.EpochRule.{EpochRule, advance_from}
 use Rattle.smc_rules.specs.Reads.{epoch_of_region}
 use Rattle.smc_rules.specs.State.{Backed}
 use Rattle.smc_inv_epoch.specs.Epochs.{is_first}
-use Rattle.smc_inv_epoch.proofs.EveryList.{rule-reached}
-use Rattle.smc_region.specs.declared.advance.Advance.TheVariants.{Advanced, Overtaken}
+use Rattle.smc_inv_epoch.proofs.EveryList.{rule-then}
+use Rattle.smc_region.specs.declared.advance.Advance.TheVariants.{Advanced, NotYet, Overtaken}
 use Rattle.smc_region.specs.Advances.{Advances, SawNumber, advancing}
 use Rattle.smc_region.specs.Callers.{Caller, IsSeatOf, caller_of}
 use Rattle.smc_region.specs.Reached.{From, Saw}
 use Rattle.smc_region.proofs.Closes.{caller_seat}
+use Rattle.smc_region.proofs.StepLaws.{was}
 use Rattle.smc_region.specs.declared.law.View.{View}
 use Rattle.smc_region.specs.Views.{one}
 
 -- the epoch rule holds in the state that a step tells of
 behind : (view : View) (f : From view) → Backed view.shape is_first (EpochRule view.shape) f.machine.row f.machine.locals
-behind view f = let r = f.reached in rule-reached view.shape r.valid f.opening r.start f.machine.row f.machine.locals r.opens r.opened r.reach
+behind view f = let r = f.reached in rule-then view.shape r.valid f.opening (was r).0 f.machine (was r).1
 
 -- a number that suits the place of the epoch is packed as it is
 plain-packed : (w : Word) → Suits place.Epoch w → packed w ≡ plain_of w
@@ -53,6 +54,9 @@ epoch-is view f = let b = behind view f in
 -- no epoch is past the last one
 pub saw_low : (view : View) (w : Word) → Saw view (Load place.Epoch) w → plain_of w ≤ LAST_EPOCH
 saw_low view w s = let b = behind view s.from in let last = b.rule.last in let e = ap plain_of s.is ∙ epoch-is view s.from in omega (arith, last, e)
+
+pub saw_low_by : (view : View) (expect put w : Word) → Saw view (Exchange place.Epoch expect put) w → plain_of w ≤ LAST_EPOCH
+saw_low_by view expect put w s = let b = behind view s.from in let last = b.rule.last in let e = ap plain_of s.is ∙ epoch-is view s.from in omega (arith, last, e)
 
 -- where an advance is not the first to move on, it sees a later epoch
 pub saw_later : (shape : Layout) (pass : ℕ) (l : Local) (from : ℕ) (e v : Word) (w : Word) → l.stand.phase ≡ phase.Ready from → Saw (one shape pass l) (Exchange place.Epoch e v) w
@@ -88,7 +92,27 @@ module _ (old : Caller) (epoch other : ℕ) (w : Word) (first : SawNumber old pl
   pub moved_on : (seen : ℕ) → seen ≡ plain_of w → seen ≡ epoch → Advances old (Advanced (epoch + 1))
   moved_on seen is same = record { from = epoch; first = first; cause = ((λ e. omega arith), refl, subst (λ (n : ℕ). SawNumber old place.Epoch n) (sym is ∙ same) at_end) }
 
+  pub later_seen : (seen : ℕ) → old.shape.passes ≤ other → seen ≡ plain_of w → seen ≢ epoch → epoch < seen
+  later_seen seen last is ne =
+      let later = saw_later old.shape old.number (advancing old.shape old.local epoch other) epoch (word.Plain epoch) (word.Plain (epoch + 1)) w (ready-next old.shape epoch other last) saw (λ e. ne (is ∙ e)) in
+      omega (arith, later, is)
+
   pub overtaken : (seen : ℕ) → old.shape.passes ≤ other → seen ≡ plain_of w → seen ≢ epoch → Advances old (Overtaken seen)
   overtaken seen last is ne =
       let later = saw_later old.shape old.number (advancing old.shape old.local epoch other) epoch (word.Plain epoch) (word.Plain (epoch + 1)) w (ready-next old.shape epoch other last) saw (λ e. ne (is ∙ e)) in
       record { from = epoch; first = first; cause = ((λ e. omega arith), omega (arith, later, is), subst (λ (n : ℕ). SawNumber old place.Epoch n) (sym is) at_end) }
+
+-- an advance that sees an older section ends for it
+pub not_yet : (old : Caller) (epoch other : ℕ) (w : Word) → SawNumber old place.Epoch epoch → epoch < LAST_EPOCH
+    → Saw (one old.shape old.number (advancing old.shape old.local epoch other)) (Load (place.Section other)) w
+    → (seen : ℕ) → seen ≡ plain_of w → seen ≢ 0 → seen ≢ epoch → Advances old (NotYet other seen)
+not_yet old epoch other w first low saw seen is some apart = record {
+  from = epoch;
+  first = first;
+  cause = (
+    (λ e. omega (arith, low, e)),
+    some,
+    apart,
+    record { before = advancing old.shape old.local epoch other; op = Load (place.Section other); seen = w; here = refl; saw = saw; is = sym is },
+  );
+}

@@ -28,7 +28,7 @@ use Rattle.smc_region.specs.declared.law.View.{View}
 use Rattle.smc_region.specs.Reached.{IsReached, From, RestsOn, Saw, Showed, StandsIn, answered_number}
 use Rattle.smc_region.specs.Rule.{Kept, Fits, HoldsLocal, HoldsNote, IsOwn}
 use Rattle.smc_region.specs.Views.{IsAlone, one, view_after, op_of, sole_op, view_op}
-use Rattle.smc_region.proofs.StepLaws.{get-set_same, get-set_other, own-told, own-learnt, reach-then, is_learnt-set, note-stays}
+use Rattle.smc_region.proofs.StepLaws.{get-set_same, get-set_other, own-told, own-learnt, history-then, is_learnt-set, note-stays, reached_by, was}
 
 -- the place of an operation that fits is one of the region
 pub fits_place : (shape : Layout) (op : Op) → OpFits shape op → InRange shape (place_of op)
@@ -88,19 +88,14 @@ acts shape opening slots seat told pass l choice o own offers s kept _ at_seat s
     let here : slice_get kept.locals pass ≡ Some l = mine.passes.0.2 in
     let reached : IsReached told opening s.words kept.locals = subst (λ (t : Layout). IsReached t opening s.words kept.locals) (sym same) kept.reached in
     let has : has_place told (place_of o.op) ≡ true = in_range-has told (place_of o.op) (fits_place told o.op
-    (offered_fits told opening reached.start s.words kept.locals pass l choice o reached.valid reached.opens reached.opened reached.reach here offers)) in
+    (offered_fits told opening (was reached).0 (record { row = s.words; locals = kept.locals }) pass l choice o reached.valid (was reached).1 here offers)) in
     let m : Machine = record { row = s.words; locals = kept.locals } in
     let w : Word = row_shows told o.op s.words in
     let l' : Local = after told pass l choice 0 w in
     let next : Machine = stepped told m pass l choice 0 o.op in
     let step : Steps told m pass choice next = record { local = l; offered = o; told = 0; here = here; offers = offers; allows = own-told kept.locals pass choice own; leads = refl } in
-    let led : IsReached told opening (row_after told o.op s.words) (slice_set kept.locals pass l') = record {
-      start = reached.start;
-      valid = reached.valid;
-      opens = reached.opens;
-      opened = reached.opened;
-      reach = reach-then told reached.start m next pass choice reached.reach step;
-    } in
+    let led : IsReached told opening (row_after told o.op s.words) (slice_set kept.locals pass l') =
+    reached_by told opening (was reached).0 next reached.valid (history-then told opening (was reached).0 m next pass choice (was reached).1 step) in
     let now : slice_get (slice_set kept.locals pass l') pass ≡ Some l' = get-set_same kept.locals pass l l' here in
     let from : From (one told pass l) = record { opening = opening; machine = m; reached = reached; stands = (here, tt) } in
     let there : From (one told pass l') = record { opening = opening; machine = next; reached = led; stands = (now, tt) } in
@@ -138,13 +133,17 @@ pub op_of-some : (o : Option Offer) (op : Op) → op_of o ≡ Some op → (k : �
 op_of-some None op e = cc
 op_of-some (Some o) op e = let same : o.op ≡ op = cc in (o.kind, λ i. Some record { kind = o.kind; op = same i })
 
+-- nothing is no operation
+none_op : (op : Op) → None ≡ Some op → ⊥
+none_op op e = cc
+
 -- the same at a view of one pass
 view_acts : (shape : Layout) (opening : Opening) (slots seat : ℕ) (told : Layout) (xs : List (ℕ × Local)) (choice : Choice) (op : Op) → IsOwn choice → sole_op told xs choice ≡ Some op
     → Allows (Rule shape opening) slots seat (record { shape = told; locals = xs; notes = [] }, []) (at told (place_of op)) (put op) (Then choice op (record { shape = told; locals = xs; notes = [] }, []))
-view_acts shape opening slots seat told [] choice op own e = cc
-view_acts shape opening slots seat told (x ∷ y ∷ ys) choice op own e = cc
-view_acts shape opening slots seat told (x ∷ []) choice op own e = let o = op_of-some (local_offer told x.0 x.1 choice) op e in
-    acts shape opening slots seat told x.0 x.1 choice record { kind = o.0; op = op } own o.1
+view_acts shape opening slots seat told [] choice op own e = absurd (none_op op e)
+view_acts shape opening slots seat told (x ∷ y ∷ ys) choice op own e = absurd (none_op op e)
+view_acts shape opening slots seat told ((pass, l) ∷ []) choice op own e = let o = op_of-some (local_offer told pass l choice) op e in
+    acts shape opening slots seat told pass l choice record { kind = o.0; op = op } own o.1
 
 -- the same at a seat
 pub seat_acts : (shape : Layout) (opening : Opening) (slots seat : ℕ) (me : Me (Unit {0}) View) (choice : Choice) (op : Op) → IsOwn choice → IsAlone me → view_op me.0 choice ≡ Some op
@@ -162,7 +161,7 @@ seat_fits view choice op from is = go view.locals from.stands is
     go [] h e = cc
     go (x ∷ y ∷ ys) h e = cc
     go (x ∷ []) h e = let o = op_of-some (local_offer view.shape x.0 x.1 choice) op e in let r = from.reached in
-        offered_fits view.shape from.opening r.start from.machine.row from.machine.locals x.0 x.1 choice record { kind = o.0; op = op } r.valid r.opens r.opened r.reach h.0 o.1
+        offered_fits view.shape from.opening (was r).0 from.machine x.0 x.1 choice record { kind = o.0; op = op } r.valid (was r).1 h.0 o.1
 
 -- so does what a step rests on
 pub rests_fits : (view : View) (choice : Choice) (op : Op) → RestsOn view op → view_op view choice ≡ Some op → OpFits view.shape op

@@ -11,3 +11,6 @@ pub mod NoteLaws
 pub mod Tells
 pub mod KindLaws
 pub mod ActLaws
+pub mod RangeLaws
+pub mod CursorLaws
+pub mod NamedLaws

@@ -2,7 +2,7 @@
 use Rattle.std.proofs.Common.{◌≡◌, ◌≢◌, ℕ, zero, suc, Bool, Option, Some, None, List, [], ◌∷◌, ◌++◌, length, refl, sym, ap, ◌∙◌, subst, append_assoc}
 use Rattle.std.specs.Prelude.{slice_get, slice_set, ◌||◌}
 use Rattle.std.proofs.lemmas.List.{append-nil}
-use Rattle.smc_shape.specs.Layout.{Layout}
+use Rattle.smc_shape.specs.Layout.{Layout, IsShape}
 use Rattle.smc_model.specs.declared.event.Event.{Event}
 use Rattle.smc_core.specs.declared.call.Call.TheVariants as call
 use Rattle.smc_core.specs.declared.call.Choice.{Choice}
@@ -10,6 +10,10 @@ use Rattle.smc_core.specs.declared.call.Choice.TheVariants.{Start, Go}
 use Rattle.smc_core.specs.declared.local.Learnt.{Learnt}
 use Rattle.smc_core.specs.declared.local.Local.{Local}
 use Rattle.smc_core.specs.Local.{logged, notes_after, learnt_after}
+use Rattle.smc_model.specs.World.{World}
+use Rattle.smc_rules.specs.History.{History}
+use Rattle.smc_region.specs.Reached.{HasHistory, IsReached}
+use Rattle.smc_core.specs.declared.local.Opening.{Opening}
 use Rattle.smc_core.specs.Machine.{Machine, Steps, Leads, Reach, told_by, has_learnt, is_learnt, started}
 use Rattle.smc_rules.proofs.CarryLaws.{by_pass}
 use Rattle.smc_region.specs.Rule.{IsOwn, HasNote}
@@ -91,6 +95,21 @@ pub reach-then : (shape : Layout) (start : List ℕ) (m next : Machine) (pass : 
     → Reach shape start m.row m.locals → Steps shape m pass choice next → Reach shape start next.row next.locals
 reach-then shape start m next pass choice reached step =
     (reached.0 ++ (pass, choice) ∷ [], leads-then shape (started shape start) reached.0 m next pass choice reached.1 step)
+
+-- and so is its history
+pub history-then : (shape : Layout) (opening : Opening) (first : World) (m next : Machine) (pass : ℕ) (choice : Choice)
+    → History shape opening first m → Steps shape m pass choice next → History shape opening first next
+history-then shape opening first m next pass choice h step =
+    let to = reach-then shape h.start m next pass choice (h.steps, h.leads) step in record { start = h.start; starts = h.starts; steps = to.0; leads = to.1 }
+
+-- a state that is reached has a history, and one that has a history is reached
+pub was : {shape : Layout} {opening : Opening} {row : List ℕ} {locals : List Local} → IsReached shape opening row locals → (first : World) × History shape opening first (record { row = row; locals = locals })
+unfolding HasHistory
+was {shape} {opening} {row} {locals} r = r.history
+
+pub reached_by : (shape : Layout) (opening : Opening) (first : World) (m : Machine) → IsShape shape → History shape opening first m → IsReached shape opening m.row m.locals
+unfolding HasHistory
+reached_by shape opening first m valid h = record { valid = valid; history = (first, h) }
 
 -- a log after a step begins with the log before it
 pub log-longer : (log : List Event) (event : Option Event) → (later : List Event) × (logged log event ≡ log ++ later)

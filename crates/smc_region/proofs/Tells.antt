@@ -23,7 +23,7 @@ use Rattle.smc_core.specs.declared.word.Word.{Word}
 use Rattle.smc_core.specs.declared.word.Word.TheVariants.{Plain}
 use Rattle.smc_core.specs.Change.{change}
 use Rattle.smc_core.specs.Local.{after}
-use Rattle.smc_core.specs.Machine.{Machine, Steps, is_learnt, local_offer, Reach, stepped, told_by}
+use Rattle.smc_core.specs.Machine.{Machine, Steps, is_learnt, local_offer, stepped, told_by}
 use Rattle.smc_core.specs.Row.{row_shows}
 use Rattle.smc_rules.proofs.CarryLaws.{by_pass}
 use Rattle.smc_region.specs.declared.law.NoteSeen.{NoteSeen}
@@ -37,7 +37,7 @@ use Rattle.smc_region.proofs.Deals.{at_snoc_where}
 use Rattle.smc_region.proofs.Closes.{get-here}
 use Rattle.smc_region.proofs.Keeps.{Rule, notes, others, row-there}
 use Rattle.smc_region.proofs.NoteLaws.{has_learnt-else, were_made}
-use Rattle.smc_region.proofs.StepLaws.{get-set_same, is_learnt-set, note-stays, reach-then, some-same}
+use Rattle.smc_region.proofs.StepLaws.{get-set_same, is_learnt-set, note-stays, history-then, reached_by, was, some-same}
 
 -- a step that loads the epoch leaves the words as they are
 load_reached : (shape : Layout) (opening : Opening) (row : List ℕ) (locals : List Local) (pass : ℕ) (l : Local) (choice : Choice) (told : ℕ)
@@ -47,13 +47,8 @@ load_reached shape opening row locals pass l choice told r here offers allows =
     let m : Machine = record { row = row; locals = locals } in
     let next : Machine = stepped shape m pass l choice told (Load place.Epoch) in
     let step : Steps shape m pass choice next = record { local = l; offered = record { kind = 1; op = Load place.Epoch }; told = told; here = here; offers = offers; allows = allows; leads = refl } in
-    record {
-      start = r.start;
-      valid = r.valid;
-      opens = r.opens;
-      opened = r.opened;
-      reach = subst (λ (ws : List ℕ). Reach shape r.start ws next.locals) (row-there shape (Load place.Epoch) row refl ∙ set-get_or row (at shape place.Epoch) 0) (reach-then shape r.start m next pass choice r.reach step);
-    }
+    subst (λ (ws : List ℕ). IsReached shape opening ws next.locals) (row-there shape (Load place.Epoch) row refl ∙ set-get_or row (at shape place.Epoch) 0)
+    (reached_by shape opening (was r).0 next r.valid (history-then shape opening (was r).0 m next pass choice (was r).1 step))
 
 -- what is offered outside a section
 note_offers : (shape : Layout) (pass : ℕ) (l : Local) → IsOutside l → local_offer shape pass l (Start call.Note) ≡ Some record { kind = 1; op = Load place.Epoch }
@@ -87,7 +82,7 @@ module _ (locals : List Local) (pass : ℕ) (l : Local) (here : slice_get locals
     where
       go : (t : Bool) → is_learnt locals pass (length l.notes) ≡ t → t ≡ false
       go false e = refl
-      go true e = let was = were_made shape r.start row locals r.reach pass (length l.notes) e in
+      go true e = let was = were_made shape (was r).1.start row locals ((was r).1.steps, (was r).1.leads) pass (length l.notes) e in
           let got : slice_get l.notes (length l.notes) ≡ Some was.0 = sym (ap (option_and_then (λ (k : Local). slice_get k.notes (length l.notes))) here) ∙ was.1 in
           let within = slice_get_within l.notes (length l.notes) was.0 got in absurd (omega (arith, within))
 

@@ -9,3 +9,4 @@ pub mod Looks
 pub mod Acts
 pub mod Advances
 pub mod Ends
+pub mod Named

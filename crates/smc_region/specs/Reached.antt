@@ -8,17 +8,20 @@ use Rattle.smc_core.specs.declared.local.Opening.{Opening}
 use Rattle.smc_core.specs.declared.op.Op.{Op}
 use Rattle.smc_core.specs.declared.op.Op.TheVariants.{Load, Store, Exchange, MarkGone}
 use Rattle.smc_core.specs.declared.word.Word.{Word}
-use Rattle.smc_core.specs.Machine.{Machine, IsOpening, IsOpened, Reach}
+use Rattle.smc_core.specs.Machine.{Machine}
 use Rattle.smc_core.specs.Row.{number_at, place_of, row_shows}
+use Rattle.smc_model.specs.World.{World}
+use Rattle.smc_rules.specs.History.{History}
 use Rattle.smc_region.specs.declared.law.View.{View}
 
--- steps lead to this row and these local states from a region that opened so, without objects
+-- the machine has a history, from a start and a first world
+unfoldable pub HasHistory : Layout → Opening → Machine → Type 0
+HasHistory shape opening m = (first : World) × History shape opening first m
+
+-- this row and these local states have one
 pub record IsReached (shape : Layout) (opening : Opening) (row : List ℕ) (locals : List Local) : Type 0 where
-  pub start : List ℕ
   pub valid : IsShape shape
-  pub opens : IsOpening opening
-  pub opened : IsOpened shape opening start
-  pub reach : Reach shape start row locals
+  pub history : HasHistory shape opening (record { row = row; locals = locals })
 
 -- the pass has this local state there
 abbrev pub StandsIn : List Local → ℕ × Local → Type 0

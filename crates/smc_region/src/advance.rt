@@ -1,7 +1,8 @@
 //! The epoch of a region is moved on.
-ghost use Rattle.std.specs.Prelude.{◌≡◌};
+ghost use Rattle.std.specs.Prelude.{◌≡◌, ◌+◌, ◌≤◌};
 ghost use Rattle.smc_region.specs.Advances.{Advances, done_of};
 ghost use Rattle.smc_region.specs.Callers.{IsPassOf, IsSame, answered_by};
+ghost use Rattle.smc_region.specs.Named.{IsLow, Rises};
 
 use crate::chosen::Chosen;
 use crate::pass::Pass;
@@ -28,7 +29,10 @@ impl Pass {
         requires here { IsPassOf region.now self.old }
         ensures same { IsSame self.old self.new }
         ensures answered { self.new.local ≡ answered_by self.old.local self.new.local.steps (done_of result) }
+        ensures few { self.new.local.steps ≤ self.old.local.steps + self.old.shape.passes + 2 }
+        ensures low { IsLow result }
         ensures cause { Advances self.old result }
+        ensures rises { Rises self.old.local result }
     {
         let load = Op::Load {
             place: Place::Epoch,

@@ -1,10 +1,11 @@
 //! A look-up, with the help that it gives to a move.
-ghost use Rattle.std.specs.Prelude.{◌≡◌, true, false, IfSome, Some, None, is_some};
+ghost use Rattle.std.specs.Prelude.{◌≡◌, ◌+◌, ◌*◌, ◌≤◌, true, false, IfSome, Some, None, is_some};
 ghost use Rattle.smc_core.specs.declared.phase.Phase.TheVariants as phase;
 ghost use Rattle.smc_core.specs.declared.phase.objects.LookPhase.TheVariants as look;
 ghost use Rattle.smc_core.specs.declared.phase.objects.Seeker.TheVariants as seeker;
 ghost use Rattle.smc_core.specs.Offer.{held_slot};
 ghost use Rattle.smc_core.specs.Row.{has_place};
+ghost use Rattle.smc_shape.specs.Layout.{width_of};
 ghost use Rattle.smc_shape.specs.declared.place.Place.TheVariants as place;
 ghost use Rattle.smc_region.specs.Callers.{IsSame};
 ghost use Rattle.smc_region.specs.Looks.{LooksUp, Decided, SawPresent, slot_found};
@@ -23,6 +24,7 @@ impl<'r> Section<'r> {
     pub fn deref(&mut self, number: Number) -> Option<Held>
         requires idle { self.old.local.stand.phase ≡ phase.Idle }
         ensures same { IsSame self.old self.new }
+        ensures few { self.new.local.steps ≤ self.old.local.steps + 4 + 2 * width_of self.old.shape number.coll }
         ensures looks { LooksUp (slot_found result) number self.old.local self.new.local }
         ensures decided { Decided self.new number (is_some result) }
         ensures idle { self.new.local.stand.phase ≡ phase.Idle }
@@ -62,6 +64,7 @@ impl<'r> Section<'r> {
         requires idle { self.old.local.stand.phase ≡ phase.Idle }
         requires none { has_place self.old.shape (place.Entry number.coll number.entry) ≡ false }
         ensures same { IsSame self.old self.new }
+        ensures few { self.new.local.steps ≤ self.old.local.steps + 1 }
         ensures none { result ≡ None }
         ensures looks { LooksUp result number self.old.local self.new.local }
     {
@@ -78,6 +81,7 @@ impl<'r> Section<'r> {
         requires idle { self.old.local.stand.phase ≡ phase.Idle }
         requires some { has_place self.old.shape (place.Entry number.coll number.entry) ≡ true }
         ensures same { IsSame self.old self.new }
+        ensures few { self.new.local.steps ≤ self.old.local.steps + 4 + 2 * width_of self.old.shape number.coll }
         ensures looks { LooksUp result number self.old.local self.new.local }
         ensures decided { SawPresent self.new number (is_some result) }
     {
@@ -122,6 +126,7 @@ impl<'r> Section<'r> {
     fn abandon(&mut self, number: Number, slot: u32) -> Option<u32>
         requires phase { self.old.local.stand.phase ≡ phase.Look (look.Abandon seeker.Caller number slot) }
         ensures same { IsSame self.old self.new }
+        ensures few { self.new.local.steps ≤ self.old.local.steps + 3 + 2 * width_of self.old.shape number.coll }
         ensures looks { LooksUp result number self.old.local self.new.local }
         ensures decided { SawPresent self.new number (is_some result) }
     {

@@ -1,5 +1,5 @@
 //! The help that a look-up gives to a move.
-ghost use Rattle.std.specs.Prelude.{◌≡◌, is_some};
+ghost use Rattle.std.specs.Prelude.{◌≡◌, ◌+◌, ◌*◌, ◌≤◌, is_some};
 ghost use Rattle.smc_core.specs.declared.phase.Phase.TheVariants as phase;
 ghost use Rattle.smc_core.specs.declared.phase.objects.CopyPhase.TheVariants as copy;
 ghost use Rattle.smc_core.specs.declared.phase.objects.LookPhase.TheVariants as look;
@@ -50,6 +50,7 @@ impl<'r> Section<'r> {
     pub(crate) fn help(&mut self, number: Number, slot: u32) -> Option<u32>
         requires phase { self.old.local.stand.phase ≡ phase.Look (look.Help seeker.Caller number slot copy.Target) }
         ensures same { IsSame self.old self.new }
+        ensures few { self.new.local.steps ≤ self.old.local.steps + 2 + 2 * width_of self.old.shape number.coll }
         ensures looks { LooksUp result number self.old.local self.new.local }
         ensures decided { SawPresent self.new number (is_some result) }
     {

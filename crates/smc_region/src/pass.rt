@@ -1,7 +1,8 @@
 //! A pass, and the calls that it makes outside a section.
-ghost use Rattle.std.specs.Prelude.{◌≡◌};
+ghost use Rattle.std.specs.Prelude.{◌≡◌, ◌≤◌};
+ghost use Rattle.smc_region.specs.Named.{latest};
 ghost use Rattle.smc_core.specs.Section.{calm_by, epoch_of, is_calm};
-ghost use Rattle.smc_region.specs.Callers.{IsPassOf, IsSame, entered};
+ghost use Rattle.smc_region.specs.Callers.{IsOutside, IsPassOf, IsSame, entered};
 
 use crate::chosen::Chosen;
 use crate::law::View;
@@ -48,7 +49,8 @@ fn calm_by(epoch: u64, round: Option<RoundWord>) -> bool
 impl Pass {
     /// The number of the pass, below the number of passes of its region.
     pub fn number(&self) -> u32
-        ensures { result ≡ self.now.number }
+        ensures number { result ≡ self.now.number }
+        ensures outside { IsOutside self.now.local }
     {
         self.number
     }
@@ -58,6 +60,7 @@ impl Pass {
     pub fn enter<'r>(self, region: &'r Region) -> Section<'r>
         requires here { IsPassOf region.now self }
         ensures same { IsSame self result }
+        ensures late { latest self.local.answers ≤ epoch_of result.local.stand.section }
         ensures entered { result.local ≡ entered self.local (epoch_of result.local.stand.section) (is_calm result.local.stand.section) }
     {
         let Pass {

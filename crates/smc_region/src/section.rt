@@ -1,9 +1,10 @@
 //! A pass inside a section.
-ghost use Rattle.std.specs.Prelude.{◌≡◌, ◌<◌, Some, length, slice_get, slice_set};
+ghost use Rattle.std.specs.Prelude.{◌≡◌, ◌<◌, ◌≤◌, Some, length, slice_get, slice_set};
 ghost use Rattle.smc_shape.specs.Layout.{slots_of};
 ghost use Rattle.smc_core.specs.Ripe.{next_round};
 ghost use Rattle.smc_core.specs.declared.phase.Phase.TheVariants.{Idle};
 ghost use Rattle.smc_core.specs.declared.section.Section.TheVariants.{Inside};
+ghost use Rattle.smc_core.specs.declared.section.TheConstants.{LAST_EPOCH};
 ghost use Rattle.smc_core.specs.Local.{after};
 ghost use Rattle.smc_core.specs.Machine.{local_offer};
 ghost use Rattle.smc_core.specs.Row.{OpFits};
@@ -121,7 +122,8 @@ impl<'r> Section<'r> {
 impl<'r> Section<'r> {
     /// The epoch of the section.
     pub fn epoch(&self) -> u64
-        ensures { result ≡ epoch_of self.now.local.stand.section }
+        ensures epoch { result ≡ epoch_of self.now.local.stand.section }
+        ensures low { result ≤ LAST_EPOCH }
     {
         self.epoch
     }
@@ -158,7 +160,8 @@ impl<'r> Section<'r> {
     /// The slot behind that of the latest object that the pass has added to the collection `c`, at first 0.
     pub fn cursor(&self, c: u8) -> u32
         requires { c < length self.now.shape.colls }
-        ensures { slice_get self.now.local.cursors c ≡ Some result }
+        ensures is { slice_get self.now.local.cursors c ≡ Some result }
+        ensures within { result < slots_of self.now.shape c }
     {
         self.cursors[usize::from(c)]
     }

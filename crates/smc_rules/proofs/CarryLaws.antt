@@ -1,22 +1,21 @@
 -- What each step keeps holds after every list of steps.
 use Rattle.std.proofs.Common.{◌≡◌, ◌≢◌, ℕ, zero, suc, ◌<◌, ◌==◌, Bool, true, false, Some, List, [], ◌∷◌, refl, sym, ap, ◌∙◌, subst, arith}
-use Rattle.std.specs.Prelude.{IsTrue, replicate, slice_get, slice_set, if◌then◌else◌}
+use Rattle.std.specs.Prelude.{slice_get, slice_set, if◌then◌else◌}
 use Rattle.std.proofs.lemmas.Bool.{eq-eqb, ne_eqb, eqb-true, eqb-false}
-use Rattle.std.proofs.lemmas.List.{length-set, length-replicate}
+use Rattle.std.proofs.lemmas.List.{length-set}
 use Rattle.std.proofs.lemmas.Option.{slice_get_within}
 use Rattle.smc_shape.specs.Layout.{Layout, IsShape}
 use Rattle.smc_shape.specs.declared.place.Place.{Place}
 use Rattle.smc_core.specs.declared.call.Choice.{Choice}
 use Rattle.smc_core.specs.declared.local.Local.{Local}
-use Rattle.smc_core.specs.declared.local.Opening.{Opening}
 use Rattle.smc_core.specs.declared.local.Stand.{Stand}
 use Rattle.smc_core.specs.declared.op.Op.{Op}
 use Rattle.smc_core.specs.declared.word.Word.{Word}
-use Rattle.smc_core.specs.Local.{fresh, after}
-use Rattle.smc_core.specs.Machine.{Machine, Steps, Leads, Reach, IsOpened, first_word, started, stepped}
-use Rattle.smc_core.specs.Row.{Suits, row_shows}
+use Rattle.smc_core.specs.Local.{after}
+use Rattle.smc_core.specs.Machine.{Machine, Steps, Leads, stepped}
+use Rattle.smc_core.specs.Row.{row_shows}
 use Rattle.smc_rules.specs.Mirror.{IsMirrored}
-use Rattle.smc_rules.specs.State.{State, put_stand, stand_offer, stand_then, state_after, first_state, Backs, IsKept, Backed}
+use Rattle.smc_rules.specs.State.{State, put_stand, stand_offer, stand_then, state_after, Backs, IsKept, Backed}
 use Rattle.smc_rules.proofs.MirrorLaws.{mirrored}
 
 module _ {A : Type 0} where
@@ -98,24 +97,3 @@ module _ (shape : Layout) (these : Place → Bool) (valid : IsShape shape) where
         → Backed shape these Rule m.row m.locals → Leads shape m steps last → Backed shape these Rule last.row last.locals
     along m [] last b leads = subst (λ (k : Machine). Backed shape these Rule k.row k.locals) leads b
     along m (first ∷ later) last b leads = along leads.0 later last (backed_step m first.0 first.1 leads.0 b leads.1) leads.2
-
-    -- a rule that each step keeps, and that holds at first, holds of every state of Reach
-    pub carried : (opening : Opening) (start row : List ℕ) (locals : List Local)
-        → ((there : Place) → IsTrue (these there) → Suits there (first_word opening there))
-        → Rule (first_state shape opening) → IsOpened shape opening start → Reach shape start row locals
-        → Backed shape these Rule row locals
-    carried opening start row locals suits first opened reached =
-        along (started shape start) reached.0 (record { row = row; locals = locals }) (record {
-          state = first_state shape opening;
-          backs = record {
-            mirrors = record { long = opened.long; words = λ there u r. opened.words there r; suits = λ there u r. suits there u };
-            count = length-replicate shape.passes (fresh shape);
-            same = λ pass l is. ap (λ (k : Local). k.stand) (fresh_at shape.passes pass l is);
-          };
-          rule = first;
-        }) reached.1
-      where
-        fresh_at : (n i : ℕ) (l : Local) → slice_get (replicate n (fresh shape)) i ≡ Some l → fresh shape ≡ l
-        fresh_at zero i l e = cc
-        fresh_at (suc n) zero l e = cc
-        fresh_at (suc n) (suc i) l e = fresh_at n i l e

@@ -50,7 +50,8 @@ module _ (shape : Layout) (opening : Opening) (o : IsOpening opening) where
     slot_claim = λ coll slot lt is. absurd (cc);
     entry_claim = λ coll entry incarnation lt is. absurd (cc);
     slot_owed = λ slot a b la lb owes. absurd (cc);
-    entry_owed = λ number a b la lb owes. absurd (cc);
+    one_claim = λ coll entry a b la lb claims. absurd (let none = claims.1 in cc);
+    entry_owed = λ coll entry a b la lb owes. absurd (let none = owes.1 in cc);
     stored = λ pass lt. tt;
     sources = λ pass moves lt is. absurd (cc);
     targets = λ pass moves lt is. absurd (cc);

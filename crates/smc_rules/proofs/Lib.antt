@@ -4,3 +4,4 @@ pub mod MirrorLaws
 pub mod CarryLaws
 pub mod OfferLaws
 pub mod FirstState
+pub mod HistoryLaws

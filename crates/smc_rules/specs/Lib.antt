@@ -8,3 +8,5 @@ pub mod Calls
 pub mod SlotRule
 pub mod RelocationRule
 pub mod RoundAgreement
+pub mod Start
+pub mod History

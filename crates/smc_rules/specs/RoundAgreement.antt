@@ -1,7 +1,7 @@
 -- What the round word and the local states say alike, and what else is needed to keep what the relocation rule says of them.
 --
 -- Nobody has to believe these: they are here because the rule does not follow from itself alone.
-use Rattle.std.specs.Prelude.{◌≡◌, ℕ, ◌<◌, Bool, true, false, IsTrue, IsSome, Option, None}
+use Rattle.std.specs.Prelude.{◌≡◌, ℕ, ◌<◌, Bool, true, false, IsTrue, IsSome, None}
 use Rattle.smc_shape.specs.Layout.{Layout}
 use Rattle.smc_shape.specs.declared.place.Place.TheVariants as place
 use Rattle.smc_core.specs.declared.phase.Phase.{Phase}

@@ -95,6 +95,13 @@ pub record IsHome (shape : Layout) (world : World) (memory : Memory) (slot : ℕ
   pub owner : IsOwnedBy memory slot number
   pub record_of_it : HasRecord shape world memory slot number
 
+-- the call has claimed the entry, or owes it, under some incarnation
+abbrev pub ClaimsEntry : ℕ → ℕ → Phase → Type 0
+ClaimsEntry coll entry call = (incarnation : ℕ) × (claimed_number call ≡ Some (object incarnation entry coll))
+
+abbrev pub OwesEntry : ℕ → ℕ → Phase → Type 0
+OwesEntry coll entry call = (incarnation : ℕ) × (owed_number call ≡ Some (object incarnation entry coll))
+
 -- what holds of slots, entries and objects in every state of a region that opened so
 pub record SlotRule (shape : Layout) (opening : Opening) (s : S.State) : Type 0 where
   -- a claimed slot belongs to one add or begin in progress
@@ -103,9 +110,11 @@ pub record SlotRule (shape : Layout) (opening : Opening) (s : S.State) : Type 0 
   -- a claimed entry belongs to one add in progress
   pub entry_claim : (coll entry incarnation : ℕ) → entry < entries_of shape coll → state_in s.memory coll entry ≡ state.Claimed incarnation
       → IsOneOf shape s.stands (λ call. claimed_number call ≡ Some (object incarnation entry coll))
+  -- and no entry to two, whatever their incarnations
+  pub one_claim : (coll entry : ℕ) → AtMostOne shape s.stands (ClaimsEntry coll entry)
   -- a slot or an entry that is to be left for later use is owed by one call
   pub slot_owed : (slot : Slot) → AtMostOne shape s.stands (λ call. owed_slot call ≡ Some slot)
-  pub entry_owed : (number : Number) → AtMostOne shape s.stands (λ call. owed_number call ≡ Some number)
+  pub entry_owed : (coll entry : ℕ) → AtMostOne shape s.stands (OwesEntry coll entry)
   -- what adds and begins in progress have stored stands as stored
   pub stored : (pass : ℕ) → pass < shape.passes
       → StandsAsStored shape s.memory (s.stands pass).words (s.stands pass).phase

@@ -1,5 +1,8 @@
 //! What the definitions say of each other. Each function is a theorem over `specs`, and does nothing.
-ghost use Rattle.smc_core.specs.Machine.{IsOpening};
+ghost use Rattle.std.specs.Prelude.{ℕ, List};
+ghost use Rattle.smc_core.specs.Machine.{IsOpening, IsOpened};
+ghost use Rattle.smc_model.specs.World.{empty_world};
+ghost use Rattle.smc_rules.specs.Start.{IsStart};
 ghost use Rattle.smc_core.specs.declared.local.Opening.{Opening};
 ghost use Rattle.smc_rules.specs.EpochRule.{EpochRule};
 ghost use Rattle.smc_rules.specs.Mirror.{ReadsBack, KeepsMirror};
@@ -16,6 +19,12 @@ pub fn words_are_read_back()
 /// An operation that fits does to the row what it does to the memory that the row mirrors, and shows the same word.
 pub fn operations_are_mirrored()
     ensures { KeepsMirror }
+{}
+
+/// A region without objects may start, in the empty world.
+pub fn new_regions_start()
+    ensures { (shape : Layout) (opening : Opening) (row : List ℕ) → IsOpening opening → IsOpened shape opening row
+        → IsStart shape opening empty_world row }
 {}
 
 /// A region without objects begins with all three rules.

@@ -5,7 +5,8 @@
 //! what a step makes of them (`State`). The rules themselves stand in `EpochRule`, `SlotRule` and `RelocationRule`, over
 //! `Calls`: what a call in progress has claimed, owes and copies. A reader has to believe these three and nothing else;
 //! `EpochAgreement` and `RoundAgreement` are there for the proof alone. A crate above proves that each step keeps a
-//! rule (`IsKept`), and has from `proofs/CarryLaws` that it holds in every state of `Reach`: `smc_inv_epoch` for the
+//! rule (`IsKept`), and has from `proofs/HistoryLaws` that it holds of the state of every `History`: from each start
+//! (`Start`: a row at rest, with the objects of a first world), after every list of steps. `smc_inv_epoch` does so for the
 //! epoch rule and the round word, `smc_laws` for all three.
 #![tactic(auto)]
 

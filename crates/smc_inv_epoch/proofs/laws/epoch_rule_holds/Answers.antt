@@ -1,5 +1,5 @@
-use Rattle.smc_inv_epoch.proofs.EveryList.{rule-reached}
+use Rattle.smc_inv_epoch.proofs.EveryList.{rule-then}
 use Rattle.smc_inv_epoch.proofs.laws.epoch_rule_holds.Goals as goal
 
 pub returns : goal.returns
-returns c shape opening start row locals valid o opened reached = rule-reached shape valid opening start row locals o opened reached
+returns c shape opening first m valid h = rule-then shape valid opening first m h

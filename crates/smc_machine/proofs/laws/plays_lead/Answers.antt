@@ -1,5 +1,5 @@
-use Rattle.smc_machine.proofs.PlayLaws.{Plays-leads}
+use Rattle.smc_machine.proofs.PlayLaws.{Plays-told}
 use Rattle.smc_machine.proofs.laws.plays_lead.Goals as goal
 
 pub returns : goal.returns
-returns c = λ shape first last steps events played. Plays-leads shape first steps events last played
+returns c = λ shape first last steps events played. Plays-told shape first steps events last played

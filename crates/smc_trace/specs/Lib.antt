@@ -1,0 +1,3 @@
+pub mod Trace
+pub mod TraceLaws
+pub mod Named

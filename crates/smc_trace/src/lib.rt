@@ -1,0 +1,9 @@
+//! What a pass has done is one list: its calls that ended.
+//!
+//! `specs/Trace.antt` says what is kept of a call that ended (`CallEnd`: the event that it told, if it told one, and its
+//! answer), what a log and kept answers are where these calls were made (`IsTrace`), and how they grow (`Tells`). `laws`
+//! has what follows: a pass has one trace, and traces grow by what was done. Callers may rely on all of it; the lemmas are
+//! in `proofs/TraceSteps.antt`.
+#![tactic(auto)]
+
+pub mod laws;
