@@ -3,6 +3,7 @@ use Rattle.std.proofs.Common.{◌≡◌, ℕ, ◌<◌, Bool, true, Some, List, [
 use Rattle.std.specs.Prelude.{slice_get}
 use Rattle.std.proofs.lemmas.Option.{slice_get_within}
 use Rattle.smc_shape.specs.Layout.{Layout}
+use Rattle.smc_model.specs.World.{empty_world}
 use Rattle.smc_core.specs.declared.local.Local.{Local}
 use Rattle.smc_core.specs.declared.local.Scan.{Scan}
 use Rattle.smc_core.specs.declared.local.Stand.{Stand}
@@ -44,6 +45,6 @@ course-begun scans new below =
 pub next_is_new : (shape : Layout) (pass : ℕ) (l : Local) → From (one shape pass l) → AreBelow (scan_number pass l.stand.begun) l.stand.scans
 next_is_new shape pass l f =
     let r = f.reached in
-    let b = kept-then shape r.valid f.opening (was r).0 f.machine (was r).1 in
+    let b = kept-then shape r.valid f.opening empty_world f.machine (was r) in
     let within : pass < shape.passes = omega (arith, slice_get_within f.machine.locals pass l f.stands.0, b.backs.count) in
     subst (λ (k : Stand). AreBelow (scan_number pass k.begun) k.scans) (b.backs.same pass l f.stands.0) (b.rule.each pass within).below

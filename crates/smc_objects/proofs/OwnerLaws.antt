@@ -3,6 +3,7 @@ use Rattle.std.proofs.Common.{◌≡◌, ℕ, ◌<◌, Option, Some, refl, sym, 
 use Rattle.smc_words.specs.declared.number.Number.{Number}
 use Rattle.smc_shape.specs.Layout.{Layout, slots_of}
 use Rattle.smc_shape.specs.declared.place.Place.TheVariants as place
+use Rattle.smc_model.specs.World.{empty_world}
 use Rattle.smc_core.specs.declared.local.Local.{Local}
 use Rattle.smc_core.specs.declared.op.Op.{Op}
 use Rattle.smc_core.specs.declared.op.Op.TheVariants.{Load}
@@ -24,8 +25,8 @@ pub owner_home : (shape : Layout) (pass : ℕ) (l : Local) (coll slot : ℕ) (w 
 owner_home shape pass l coll slot w owner saw lt is =
     let r = saw.from.reached in
     let op : Op = Load (place.Back coll slot) in
-    let b = ranges_then shape saw.from.opening (was r).0 saw.from.machine r.valid (was r).1 in
-    let memory : Memory = (history_state (was r).1).memory in
+    let b = ranges_then shape saw.from.opening empty_world saw.from.machine r.valid (was r) in
+    let memory : Memory = (history_state (was r)).memory in
     let mir : IsMirrored shape anywhere saw.from.machine.row memory op = mirrored shape anywhere saw.from.machine.row memory op r.valid b.backs.mirrors (λ t. lt) in
     let seen : w ≡ memory (place.Back coll slot) = saw.is ∙ mir.shows refl in
     let named : InBack shape coll (back_of w) = subst (λ (x : Word). InBack shape coll (back_of x)) (sym seen) (back_in shape coll slot (memory (place.Back coll slot)) (b.rule.memory (place.Back coll slot) lt)) in

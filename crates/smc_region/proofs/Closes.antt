@@ -7,6 +7,7 @@ use lib.ListN.{get_elem?}
 use Rattle.atomic_table.specs.Table.{State, Me, Seen}
 use Rattle.atomic_table.specs.Seated.{TableId}
 use Rattle.smc_shape.specs.Layout.{Layout}
+use Rattle.smc_model.specs.World.{empty_world}
 use Rattle.smc_core.specs.declared.local.Local.{Local}
 use Rattle.smc_core.specs.declared.local.Opening.{Opening}
 use Rattle.smc_inv_range.proofs.ReachLaws.{stands_behind}
@@ -66,7 +67,7 @@ closes : (shape : Layout) (opening : Opening) (seat : ℕ) (told : Layout) (cs :
 closes shape opening seat told cs s is count (kept, at) =
     let fits = kept.fits seat (holding told 0 (locals_of cs)) at in
     let r = kept.reached in
-    let b = stands_behind shape opening (was r).0 (record { row = s.words; locals = kept.locals }) r.valid (was r).1 in
+    let b = stands_behind shape opening empty_world (record { row = s.words; locals = kept.locals }) r.valid (was r) in
     let len : length kept.locals ≡ length (locals_of cs) = b.count ∙ ap (λ (t : Layout). t.passes) (sym is) ∙ sym count ∙ sym (length-locals cs) in
     let same : kept.locals ≡ locals_of cs = same-lists kept.locals (locals_of cs) len
     (λ k l e. let t = stand shape kept.locals kept.owner seat told 0 (locals_of cs) fits.passes k l e in let z : 0 + k ≡ k = omega arith in subst (λ (i : ℕ). slice_get kept.locals i ≡ Some l) z t) in

@@ -70,5 +70,5 @@ module _ (shape : Layout) (valid : IsShape shape) where
 pub cursor_within : (shape : Layout) (pass : ℕ) (l : Local) → From (one shape pass l) → (c x : ℕ) → slice_get l.cursors c ≡ Some x → c < length shape.colls → x < slots_of shape c
 cursor_within shape pass l f =
     let r = f.reached in
-    let h = (was r).1 in
+    let h = (was r) in
     at-slots-led shape r.valid (started shape h.start) h.steps f.machine h.leads (at-slots-first shape r.valid h.start) pass l f.stands.0

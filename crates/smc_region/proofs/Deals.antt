@@ -44,7 +44,7 @@ module _ (shape : Layout) where
 
   -- a region that opens is in a state that is reached
   pub opened_is_reached : (opens : Opening) (row : List ℕ) → IsShape shape → IsOpening opens → IsOpened shape opens row → IsReached shape opens row (started shape row).locals
-  opened_is_reached opens row valid is opened = reached_by shape opens empty_world (started shape row) valid (record { start = row; starts = new_starts shape opens row is opened; steps = []; leads = refl })
+  opened_is_reached opens row valid is opened = reached_by shape opens (started shape row) valid (record { start = row; starts = new_starts shape opens row is opened; steps = []; leads = refl })
 
   pub opens_rule : (opens : Opening) (row : List ℕ) → IsShape shape → IsOpening opens → IsOpened shape opens row → Rule shape opens (opening row [] (first_view shape))
   opens_rule opens row valid is opened = record {

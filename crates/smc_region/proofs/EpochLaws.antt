@@ -8,6 +8,7 @@ use Rattle.atomic_table.specs.Table.{Me}
 use Rattle.smc_shape.specs.Layout.{Layout}
 use Rattle.smc_shape.specs.Places.{at}
 use Rattle.smc_shape.specs.declared.place.Place.TheVariants as place
+use Rattle.smc_model.specs.World.{empty_world}
 use Rattle.smc_core.specs.declared.local.Local.{Local}
 use Rattle.smc_core.specs.declared.local.Stand.{Stand}
 use Rattle.smc_core.specs.declared.op.Op.{Op}
@@ -35,7 +36,7 @@ use Rattle.smc_region.specs.Views.{one}
 
 -- the epoch rule holds in the state that a step tells of
 behind : (view : View) (f : From view) → Backed view.shape is_first (EpochRule view.shape) f.machine.row f.machine.locals
-behind view f = let r = f.reached in rule-then view.shape r.valid f.opening (was r).0 f.machine (was r).1
+behind view f = let r = f.reached in rule-then view.shape r.valid f.opening empty_world f.machine (was r)
 
 -- a number that suits the place of the epoch is packed as it is
 plain-packed : (w : Word) → Suits place.Epoch w → packed w ≡ plain_of w

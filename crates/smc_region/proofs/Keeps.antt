@@ -9,6 +9,7 @@ use Rattle.atomic_table.proofs.Lists.{at_set}
 use Rattle.smc_shape.specs.Layout.{Layout}
 use Rattle.smc_shape.specs.Places.{InRange, at}
 use Rattle.smc_shape.specs.declared.place.Place.{Place}
+use Rattle.smc_model.specs.World.{empty_world}
 use Rattle.smc_core.specs.declared.call.Choice.{Choice}
 use Rattle.smc_core.specs.declared.local.Learnt.{Learnt}
 use Rattle.smc_core.specs.declared.local.Local.{Local}
@@ -88,14 +89,14 @@ acts shape opening slots seat told pass l choice o own offers s kept _ at_seat s
     let here : slice_get kept.locals pass ≡ Some l = mine.passes.0.2 in
     let reached : IsReached told opening s.words kept.locals = subst (λ (t : Layout). IsReached t opening s.words kept.locals) (sym same) kept.reached in
     let has : has_place told (place_of o.op) ≡ true = in_range-has told (place_of o.op) (fits_place told o.op
-    (offered_fits told opening (was reached).0 (record { row = s.words; locals = kept.locals }) pass l choice o reached.valid (was reached).1 here offers)) in
+    (offered_fits told opening empty_world (record { row = s.words; locals = kept.locals }) pass l choice o reached.valid (was reached) here offers)) in
     let m : Machine = record { row = s.words; locals = kept.locals } in
     let w : Word = row_shows told o.op s.words in
     let l' : Local = after told pass l choice 0 w in
     let next : Machine = stepped told m pass l choice 0 o.op in
     let step : Steps told m pass choice next = record { local = l; offered = o; told = 0; here = here; offers = offers; allows = own-told kept.locals pass choice own; leads = refl } in
     let led : IsReached told opening (row_after told o.op s.words) (slice_set kept.locals pass l') =
-    reached_by told opening (was reached).0 next reached.valid (history-then told opening (was reached).0 m next pass choice (was reached).1 step) in
+    reached_by told opening next reached.valid (history-then told opening empty_world m next pass choice (was reached) step) in
     let now : slice_get (slice_set kept.locals pass l') pass ≡ Some l' = get-set_same kept.locals pass l l' here in
     let from : From (one told pass l) = record { opening = opening; machine = m; reached = reached; stands = (here, tt) } in
     let there : From (one told pass l') = record { opening = opening; machine = next; reached = led; stands = (now, tt) } in
@@ -161,7 +162,7 @@ seat_fits view choice op from is = go view.locals from.stands is
     go [] h e = cc
     go (x ∷ y ∷ ys) h e = cc
     go (x ∷ []) h e = let o = op_of-some (local_offer view.shape x.0 x.1 choice) op e in let r = from.reached in
-        offered_fits view.shape from.opening (was r).0 from.machine x.0 x.1 choice record { kind = o.0; op = op } r.valid (was r).1 h.0 o.1
+        offered_fits view.shape from.opening empty_world from.machine x.0 x.1 choice record { kind = o.0; op = op } r.valid (was r) h.0 o.1
 
 -- so does what a step rests on
 pub rests_fits : (view : View) (choice : Choice) (op : Op) → RestsOn view op → view_op view choice ≡ Some op → OpFits view.shape op

@@ -66,7 +66,7 @@ use Rattle.smc_core.specs.Remove.{remove_change}
 use Rattle.smc_core.specs.Scan.{scan_change, next_change}
 use Rattle.smc_core.specs.Section.{entering_change, entering_offer}
 use Rattle.smc_core.specs.Words.{plain_of, same_word}
-use Rattle.smc_model.specs.World.{World}
+use Rattle.smc_model.specs.World.{World, empty_world}
 use Rattle.smc_rules.specs.History.{History, history_state}
 use Rattle.smc_rules.specs.Memory.{Memory, apply, same_place, seen}
 use Rattle.smc_rules.specs.EpochRule.{own_epoch}
@@ -370,6 +370,6 @@ pub latest_seen : (shape : Layout) (pass : ℕ) (l : Local) (w : Word) → Saw (
 latest_seen shape pass l w saw =
     let f = saw.from in
     let r = f.reached in
-    let low = named_low shape r.valid f.opening (was r).0 f.machine (was r).1 pass l f.stands.0 in
+    let low = named_low shape r.valid f.opening empty_world f.machine (was r) pass l f.stands.0 in
     let e = ap plain_of saw.is in
     omega (arith, low, e)

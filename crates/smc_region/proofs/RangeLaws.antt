@@ -2,6 +2,7 @@
 use Rattle.std.proofs.Common.{ℕ, ◌<◌, ◌≤◌, subst, arith}
 use Rattle.std.proofs.lemmas.Option.{slice_get_within}
 use Rattle.smc_shape.specs.Layout.{Layout}
+use Rattle.smc_model.specs.World.{empty_world}
 use Rattle.smc_core.specs.declared.local.Local.{Local}
 use Rattle.smc_core.specs.declared.local.Stand.{Stand}
 use Rattle.smc_core.specs.declared.section.Section.{Section}
@@ -18,7 +19,7 @@ use Rattle.smc_region.proofs.StepLaws.{was}
 pub stands_within : (shape : Layout) (pass : ℕ) (l : Local) → From (one shape pass l) → InStand shape l.stand
 stands_within shape pass l f =
     let r = f.reached in
-    let b = ranges_then shape f.opening (was r).0 f.machine r.valid (was r).1 in
+    let b = ranges_then shape f.opening empty_world f.machine r.valid (was r) in
     let here = f.stands.0 in
     let within : pass < shape.passes = omega (arith, slice_get_within f.machine.locals pass l here, b.backs.count) in
     subst (λ (k : Stand). InStand shape k) (b.backs.same pass l here) (b.rule.stands pass within)

@@ -10,7 +10,7 @@ use Rattle.smc_core.specs.declared.call.Choice.TheVariants.{Start, Go}
 use Rattle.smc_core.specs.declared.local.Learnt.{Learnt}
 use Rattle.smc_core.specs.declared.local.Local.{Local}
 use Rattle.smc_core.specs.Local.{logged, notes_after, learnt_after}
-use Rattle.smc_model.specs.World.{World}
+use Rattle.smc_model.specs.World.{World, empty_world}
 use Rattle.smc_rules.specs.History.{History}
 use Rattle.smc_region.specs.Reached.{HasHistory, IsReached}
 use Rattle.smc_core.specs.declared.local.Opening.{Opening}
@@ -103,13 +103,13 @@ history-then shape opening first m next pass choice h step =
     let to = reach-then shape h.start m next pass choice (h.steps, h.leads) step in record { start = h.start; starts = h.starts; steps = to.0; leads = to.1 }
 
 -- a state that is reached has a history, and one that has a history is reached
-pub was : {shape : Layout} {opening : Opening} {row : List ℕ} {locals : List Local} → IsReached shape opening row locals → (first : World) × History shape opening first (record { row = row; locals = locals })
+pub was : {shape : Layout} {opening : Opening} {row : List ℕ} {locals : List Local} → IsReached shape opening row locals → History shape opening empty_world (record { row = row; locals = locals })
 unfolding HasHistory
 was {shape} {opening} {row} {locals} r = r.history
 
-pub reached_by : (shape : Layout) (opening : Opening) (first : World) (m : Machine) → IsShape shape → History shape opening first m → IsReached shape opening m.row m.locals
+pub reached_by : (shape : Layout) (opening : Opening) (m : Machine) → IsShape shape → History shape opening empty_world m → IsReached shape opening m.row m.locals
 unfolding HasHistory
-reached_by shape opening first m valid h = record { valid = valid; history = (first, h) }
+reached_by shape opening m valid h = record { valid = valid; history = h }
 
 -- a log after a step begins with the log before it
 pub log-longer : (log : List Event) (event : Option Event) → (later : List Event) × (logged log event ≡ log ++ later)

@@ -13,6 +13,7 @@ use Rattle.smc_shape.specs.Layout.{Layout}
 use Rattle.smc_shape.specs.Places.{at}
 use Rattle.smc_shape.specs.declared.place.Place.TheVariants as place
 use Rattle.smc_model.specs.declared.event.Event.{Event}
+use Rattle.smc_model.specs.World.{empty_world}
 use Rattle.smc_core.specs.declared.call.Call.TheVariants as call
 use Rattle.smc_core.specs.declared.call.Choice.{Choice}
 use Rattle.smc_core.specs.declared.call.Choice.TheVariants.{Start}
@@ -48,7 +49,7 @@ load_reached shape opening row locals pass l choice told r here offers allows =
     let next : Machine = stepped shape m pass l choice told (Load place.Epoch) in
     let step : Steps shape m pass choice next = record { local = l; offered = record { kind = 1; op = Load place.Epoch }; told = told; here = here; offers = offers; allows = allows; leads = refl } in
     subst (λ (ws : List ℕ). IsReached shape opening ws next.locals) (row-there shape (Load place.Epoch) row refl ∙ set-get_or row (at shape place.Epoch) 0)
-    (reached_by shape opening (was r).0 next r.valid (history-then shape opening (was r).0 m next pass choice (was r).1 step))
+    (reached_by shape opening next r.valid (history-then shape opening empty_world m next pass choice (was r) step))
 
 -- what is offered outside a section
 note_offers : (shape : Layout) (pass : ℕ) (l : Local) → IsOutside l → local_offer shape pass l (Start call.Note) ≡ Some record { kind = 1; op = Load place.Epoch }
@@ -82,7 +83,7 @@ module _ (locals : List Local) (pass : ℕ) (l : Local) (here : slice_get locals
     where
       go : (t : Bool) → is_learnt locals pass (length l.notes) ≡ t → t ≡ false
       go false e = refl
-      go true e = let was = were_made shape (was r).1.start row locals ((was r).1.steps, (was r).1.leads) pass (length l.notes) e in
+      go true e = let was = were_made shape (was r).start row locals ((was r).steps, (was r).leads) pass (length l.notes) e in
           let got : slice_get l.notes (length l.notes) ≡ Some was.0 = sym (ap (option_and_then (λ (k : Local). slice_get k.notes (length l.notes))) here) ∙ was.1 in
           let within = slice_get_within l.notes (length l.notes) was.0 got in absurd (omega (arith, within))
 

@@ -10,13 +10,13 @@ use Rattle.smc_core.specs.declared.op.Op.TheVariants.{Load, Store, Exchange, Mar
 use Rattle.smc_core.specs.declared.word.Word.{Word}
 use Rattle.smc_core.specs.Machine.{Machine}
 use Rattle.smc_core.specs.Row.{number_at, place_of, row_shows}
-use Rattle.smc_model.specs.World.{World}
+use Rattle.smc_model.specs.World.{empty_world}
 use Rattle.smc_rules.specs.History.{History}
 use Rattle.smc_region.specs.declared.law.View.{View}
 
--- the machine has a history, from a start and a first world
+-- the machine has a history: a start without objects, as a region is opened, and the steps since
 unfoldable pub HasHistory : Layout → Opening → Machine → Type 0
-HasHistory shape opening m = (first : World) × History shape opening first m
+HasHistory shape opening m = History shape opening empty_world m
 
 -- this row and these local states have one
 pub record IsReached (shape : Layout) (opening : Opening) (row : List ℕ) (locals : List Local) : Type 0 where
