@@ -1,0 +1,15 @@
+//! Each function is a theorem over the definitions in `specs`, and does nothing.
+ghost use Rattle.smc_history.specs.Happened.{WhatHappenedIsLawful};
+
+use smc_census::laws::{blocks_are_enough, homes_are_objects};
+use smc_refine::laws::histories_are_lawful;
+
+/// What happened up to a state that the region reaches is lawful: the logs have one order, by the steps, which replays on a
+/// plain map, and the region's words show the objects that are present in it.
+pub fn what_happened_is_lawful()
+    ensures { WhatHappenedIsLawful }
+{
+    histories_are_lawful();
+    homes_are_objects();
+    blocks_are_enough();
+}
