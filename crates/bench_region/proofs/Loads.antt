@@ -1,9 +1,9 @@
 -- A load of a field by numbers.
-use Rattle.std.proofs.Common.{◌≡◌, ℕ, ◌+◌, ◌<◌, Bool, Some, sym, ap, ◌∙◌, arith}
+use Rattle.std.proofs.Common.{◌≡◌, ℕ, ◌+◌, ◌*◌, ◌<◌, Bool, Some, sym, ap, ◌∙◌, arith}
 use Rattle.std.proofs.lemmas.Bool.Decides.{nat_tests}
 use Rattle.smc_words.specs.declared.number.Number.{Number}
 use Rattle.smc_shape.specs.Layout.{Layout, width_of}
-use Rattle.smc_shape.specs.Places.{at}
+use Rattle.smc_shape.specs.Places.{at, IsStride}
 use Rattle.smc_shape.specs.declared.place.Place.TheVariants as place
 use Rattle.smc_core.specs.declared.call.Call.TheVariants as call
 use Rattle.smc_core.specs.declared.call.Choice.TheVariants.{Start}
@@ -17,11 +17,6 @@ use Rattle.smc_core.specs.Step.{step}
 use Rattle.smc_region.specs.declared.act.Act.{Act}
 use Rattle.smc_region.specs.Acts.{act_in}
 
--- the words of a record stand one after the other
-field-behind : (shape : Layout) (coll slot field : ℕ) → at shape (place.Field coll slot field) ≡ at shape (place.Field coll slot 0) + field
-unfolding at
-field-behind shape coll slot field = omega arith
-
 module _ (shape : Layout) where
   -- the field of an object that is held is loaded, where no call is in progress
   load-offered : (pass : ℕ) (l : Local) (number : Number) (slot field epoch : ℕ) (calm : Bool) → l.stand.section ≡ Inside epoch calm → l.stand.phase ≡ Idle
@@ -33,10 +28,10 @@ module _ (shape : Layout) where
   abbrev read_at : ℕ → Act
   read_at word = record { kind = 19; word = word; expect = 0; put = 0 }
 
-  -- so its act is a load of the word that stands so far behind the first
-  pub act-offered : (pass : ℕ) (l : Local) (number : Number) (slot field first epoch : ℕ) (calm : Bool) → l.stand.section ≡ Inside epoch calm → l.stand.phase ≡ Idle
+  -- so its act is a load of the word that stands so many strides behind the first
+  pub act-offered : (pass : ℕ) (l : Local) (number : Number) (slot field first stride epoch : ℕ) (calm : Bool) → IsStride shape stride → l.stand.section ≡ Inside epoch calm → l.stand.phase ≡ Idle
       → held_slot l.stand.held number ≡ Some slot → field < width_of shape number.coll → first ≡ at shape (place.Field number.coll slot 0)
-      → act_in shape (local_offer shape pass l (Start (call.Read number field))) ≡ Some (record { kind = 19; word = first + field; expect = 0; put = 0 })
-  act-offered pass l number slot field first epoch calm inside idle held low is =
+      → act_in shape (local_offer shape pass l (Start (call.Read number field))) ≡ Some (record { kind = 19; word = first + field * stride; expect = 0; put = 0 })
+  act-offered pass l number slot field first stride epoch calm apart inside idle held low is =
       ap (act_in shape) (load-offered pass l number slot field epoch calm inside idle held low)
-      ∙ ap (λ (word : ℕ). Some (read_at word)) (field-behind shape number.coll slot field ∙ ap (λ (k : ℕ). k + field) (sym is))
+      ∙ ap (λ (word : ℕ). Some (read_at word)) (apart number.coll slot field ∙ ap (λ (k : ℕ). k + field * stride) (sym is))

@@ -36,8 +36,8 @@ fn enter_and_leave(region: &Region, pass: Pass, turns: u32) -> Pass
     pass
 }
 
-/// The sum of the fields of an object that the section holds, each loaded so many times by the index of its word, behind
-/// that of the first one.
+/// The sum of the fields of an object that the section holds, each loaded so many times by the index of its word, so many
+/// strides behind that of the first one.
 #[inline(never)]
 fn read_fields(section: &mut Section<'_>, held: Held, first: usize, width: u32, turns: u32) -> u64
     requires idle { section.old.local.stand.phase ≡ Idle }
@@ -50,13 +50,14 @@ fn read_fields(section: &mut Section<'_>, held: Held, first: usize, width: u32, 
     ensures held { held_slot section.new.local.stand.held held.number ≡ Some held.place }
 {
     let number = held.number();
+    let stride = Shape::field_stride();
     let mut sum = 0u64;
     let _ = section.calm();
     for _ in 0..turns {
         for field in 0..width {
             let load = Act {
                 kind: 19,
-                word: first + field as usize,
+                word: first + field as usize * stride,
                 expect: 0,
                 put: 0,
             };

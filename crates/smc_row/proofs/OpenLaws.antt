@@ -1,15 +1,16 @@
 -- The numbers of a region without objects say what each place says there.
-use Rattle.std.proofs.Common.{◌≡◌, ℕ, ◌+◌, ◌*◌, ◌<◌, zero, suc, List, [], ◌∷◌, ◌++◌, length, replicate, take, get_or, refl, sym, ap, ◌∙◌, arith, sum_by, zero-add}
+use Rattle.std.proofs.Common.{◌≡◌, ℕ, ◌+◌, ◌*◌, ◌%◌, ◌<◌, zero, suc, List, [], ◌∷◌, ◌++◌, length, replicate, take, get_or, refl, sym, ap, ◌∙◌, arith, sum_by, zero-add}
 use Rattle.std.specs.List.{flat_map}
 use Rattle.std.proofs.lemmas.List.{length-append, length-replicate, get_or-replicate, get_or_append_left, get_or-append-add}
 use Rattle.std.proofs.lemmas.List.Concat.{flat_map-cons}
 use Rattle.std.proofs.lemmas.List.Sums.{sum_by-cons}
 use Rattle.smc_words.specs.declared.layout.TheConstants.{BLANK}
-use Rattle.smc_shape.specs.Layout.{Collection, Layout, no_coll, coll_of, coll_words, words_of}
+use Rattle.smc_shape.specs.declared.coll.TheConstants.{BLOCK_SLOTS}
+use Rattle.smc_shape.specs.Layout.{Collection, Layout, IsShape, no_coll, coll_of, coll_words, words_of}
 use Rattle.smc_shape.specs.Places.{InRange, start_of, at, field_offset}
 use Rattle.smc_shape.specs.declared.place.Place.{Place}
 use Rattle.smc_shape.specs.declared.place.Place.TheVariants.{Epoch, Round, Section, Entry, Directory, Back, Forward, Field}
-use Rattle.smc_shape.proofs.PlaceLaws.{home_of, offset_in, StandsIn, at-home, field_offset-lt}
+use Rattle.smc_shape.proofs.PlaceLaws.{home_of, offset_in, StandsIn, at-home, field_offset-lt, offset_in-lt, slots-whole}
 use Rattle.smc_core.specs.declared.local.Opening.{Opening}
 use Rattle.smc_core.specs.Row.{packed}
 use Rattle.smc_core.specs.Machine.{IsOpened, first_word}
@@ -62,33 +63,22 @@ module _ (free : ℕ) (coll : Collection) where
       rw e (get_or-append-add (replicate (3 * coll.slots) 0) (replicate (coll.slots * coll.width) BLANK) i 0 ∙ get_or-replicate (coll.slots * coll.width) i BLANK 0 l)
 
 -- what a place of a collection says
-opened_coll-word : (opening : Opening) (coll : Collection) (there : Place) → StandsIn coll there
+opened_coll-word : (opening : Opening) (coll : Collection) (there : Place) → coll.slots % BLOCK_SLOTS ≡ 0 → StandsIn coll there
     → get_or (opened_coll (opened_entry opening) coll) (offset_in coll there) 0 ≡ packed (first_word opening there)
-opened_coll-word opening coll Epoch stands = absurd stands
-opened_coll-word opening coll Round stands = absurd stands
-opened_coll-word opening coll (Section pass) stands = absurd stands
-opened_coll-word opening coll (Entry c entry) stands = opened_coll-entry (opened_entry opening) coll entry stands
-opened_coll-word opening coll (Directory c slot) stands = opened_coll-slot (opened_entry opening) coll slot (omega arith)
-opened_coll-word opening coll (Back c slot) stands =
+opened_coll-word opening coll Epoch whole stands = absurd stands
+opened_coll-word opening coll Round whole stands = absurd stands
+opened_coll-word opening coll (Section pass) whole stands = absurd stands
+opened_coll-word opening coll (Entry c entry) whole stands = opened_coll-entry (opened_entry opening) coll entry stands
+opened_coll-word opening coll (Directory c slot) whole stands = opened_coll-slot (opened_entry opening) coll slot (omega arith)
+opened_coll-word opening coll (Back c slot) whole stands =
     let e : coll.entries + coll.slots + slot ≡ coll.entries + (coll.slots + slot) = omega arith in
     rw e (opened_coll-slot (opened_entry opening) coll (coll.slots + slot) (omega arith))
-opened_coll-word opening coll (Forward c slot) stands =
+opened_coll-word opening coll (Forward c slot) whole stands =
     let e : coll.entries + 2 * coll.slots + slot ≡ coll.entries + (2 * coll.slots + slot) = omega arith in
     rw e (opened_coll-slot (opened_entry opening) coll (2 * coll.slots + slot) (omega arith))
-opened_coll-word opening coll (Field c slot field) stands =
+opened_coll-word opening coll (Field c slot field) whole stands =
     let e : coll.entries + 3 * coll.slots + field_offset coll.width slot field ≡ coll.entries + (3 * coll.slots + field_offset coll.width slot field) = omega arith in
-    rw e (opened_coll-field (opened_entry opening) coll (field_offset coll.width slot field) (field_offset-lt coll.width coll.slots slot field stands.0 stands.1))
-
--- such a place is among the words of its collection
-offset-within : (coll : Collection) (there : Place) → StandsIn coll there → offset_in coll there < coll_words coll
-offset-within coll Epoch stands = absurd stands
-offset-within coll Round stands = absurd stands
-offset-within coll (Section pass) stands = absurd stands
-offset-within coll (Entry c entry) stands = omega arith
-offset-within coll (Directory c slot) stands = omega arith
-offset-within coll (Back c slot) stands = omega arith
-offset-within coll (Forward c slot) stands = omega arith
-offset-within coll (Field c slot field) stands = omega (arith, field_offset-lt coll.width coll.slots slot field stands.0 stands.1)
+    rw e (opened_coll-field (opened_entry opening) coll (field_offset coll.width slot field) (field_offset-lt coll.width coll.slots slot field whole stands.0 stands.1))
 
 -- the row begins with the epoch, the round and the section words
 opened_row-section : (shape : Layout) (opening : Opening) (i : ℕ) → i < 1 + shape.passes → get_or (opened_row shape opening) (suc i) 0 ≡ 0
@@ -107,14 +97,15 @@ opened_row-coll shape opening c a l =
     ∙ get_or-opened_colls (opened_entry opening) shape.colls c a l
     )
 
-module _ (shape : Layout) (opening : Opening) where
+module _ (shape : Layout) (opening : Opening) (valid : IsShape shape) where
   -- a place that stands in a collection
   word-in_coll : (there : Place) → StandsIn (coll_of shape (home_of there)) there
       → get_or (opened_row shape opening) (at shape there) 0 ≡ packed (first_word opening there)
   word-in_coll there stands =
+      let whole = slots-whole shape (home_of there) valid in
       ap (λ (i : ℕ). get_or (opened_row shape opening) i 0) (at-home shape there stands)
-      ∙ opened_row-coll shape opening (home_of there) (offset_in (coll_of shape (home_of there)) there) (offset-within (coll_of shape (home_of there)) there stands)
-      ∙ opened_coll-word opening (coll_of shape (home_of there)) there stands
+      ∙ opened_row-coll shape opening (home_of there) (offset_in (coll_of shape (home_of there)) there) (offset_in-lt (coll_of shape (home_of there)) there whole stands)
+      ∙ opened_coll-word opening (coll_of shape (home_of there)) there whole stands
 
   -- any place
   word-opened : (there : Place) → InRange shape there → get_or (opened_row shape opening) (at shape there) 0 ≡ packed (first_word opening there)

@@ -1,14 +1,14 @@
 -- Places in range lie apart, and within the row.
-use Rattle.std.proofs.Common.{◌≡◌, ℕ, ◌+◌, ◌*◌, ◌<◌, ◌≤◌, zero, suc, List, [], ◌∷◌, length, take, get_or, refl, sym, ap, ◌∙◌, subst, inl, inr, arith, sum_by}
+use Rattle.std.proofs.Common.{◌≡◌, ℕ, ◌+◌, ◌*◌, ◌/◌, ◌%◌, ◌<◌, ◌≤◌, zero, suc, List, [], ◌∷◌, length, take, get_or, refl, sym, ap, ◌∙◌, subst, inl, inr, arith, sum_by}
 use Rattle.std.proofs.lemmas.Bool.{cases_lt}
-use Rattle.std.proofs.lemmas.Nat.{same_from_place}
-use Rattle.std.proofs.lemmas.Grind.{rows}
+use Rattle.std.proofs.lemmas.Nat.{same_from_place, mul-add-lt}
 use Rattle.std.proofs.lemmas.List.Sums.{sum_by-cons, sum_by_more_le}
 use Rattle.std.proofs.lemmas.List.{get_or_past}
+use Rattle.smc_shape.specs.declared.coll.TheConstants.{BLOCK_SLOTS}
 use Rattle.smc_shape.specs.declared.place.Place.{Place}
 use Rattle.smc_shape.specs.declared.place.Place.TheVariants.{Epoch, Round, Section, Entry, Directory, Back, Forward, Field}
 use Rattle.smc_shape.specs.declared.shape.TheConstants.{MAX_WORDS}
-use Rattle.smc_shape.specs.Layout.{Collection, Layout, IsShape, no_coll, coll_of, coll_words, slots_of, entries_of, words_of}
+use Rattle.smc_shape.specs.Layout.{Collection, Layout, IsShape, no_coll, coll_of, coll_words, width_of, slots_of, entries_of, words_of}
 use Rattle.smc_shape.specs.Places.{InRange, start_of, field_offset, at}
 
 -- a word of a collection is within the words of all
@@ -30,17 +30,49 @@ words-apart (x ∷ xs) (suc c) (suc d) a b l k e =
     in (ap suc h.0, h.1)
 
 -- a field is among the field words of its collection
-pub field_offset-lt : (width slots slot field : ℕ) → slot < slots → field < width → field_offset width slot field < slots * width
-field_offset-lt width slots slot field ls lf = grind (arith, rows)
+pub field_offset-lt : (width slots slot field : ℕ) → slots % BLOCK_SLOTS ≡ 0 → slot < slots → field < width → field_offset width slot field < slots * width
+field_offset-lt width slots slot field whole ls lf =
+    let blocks : slots ≡ BLOCK_SLOTS * (slots / BLOCK_SLOTS) = omega arith in
+    let within = mul-add-lt (slot / BLOCK_SLOTS) (BLOCK_SLOTS * width) (field * BLOCK_SLOTS + slot % BLOCK_SLOTS) (slots / BLOCK_SLOTS) (omega arith) (omega arith) in
+    subst (λ n. field_offset width slot field < n * width) (sym blocks) (omega (arith, within))
 
 -- fields lie apart
 pub field_offset-apart : (width s f t g : ℕ) → f < width → g < width → field_offset width s f ≡ field_offset width t g → (s ≡ t) × (f ≡ g)
-field_offset-apart width s f t g lf lg e = same_from_place s f t g width lf lg e
+field_offset-apart width s f t g lf lg e =
+    let block = same_from_place (s / BLOCK_SLOTS) (f * BLOCK_SLOTS + s % BLOCK_SLOTS) (t / BLOCK_SLOTS) (g * BLOCK_SLOTS + t % BLOCK_SLOTS) (BLOCK_SLOTS * width) (omega arith) (omega arith) (omega (arith, e)) in
+    (omega (arith, block.0, block.1), omega (arith, block.1))
 
 -- the words of a collection end within the row
 pub coll-within : (shape : Layout) (c : ℕ) → c < length shape.colls → start_of shape c + coll_words (coll_of shape c) ≤ words_of shape
 unfolding words_of
 coll-within shape c l = omega (arith, sum_by_more_le coll_words shape.colls c no_coll l)
+
+-- each collection of a region has whole blocks, and so has one that is not there
+pub slots-whole : (shape : Layout) (c : ℕ) → IsShape shape → slots_of shape c % BLOCK_SLOTS ≡ 0
+slots-whole shape c valid = elim (cases_lt c (length shape.colls)) [
+  | inl l ↦ (valid.coll c l).slots
+  | inr past ↦ ap (λ (coll : Collection). coll.slots % BLOCK_SLOTS) (get_or_past shape.colls c no_coll past)
+]
+
+-- a collection that has a slot is there
+pub coll-there : (shape : Layout) (c slot : ℕ) → slot < slots_of shape c → c < length shape.colls
+coll-there shape c slot l = elim (cases_lt c (length shape.colls)) [
+  | inl there ↦ there
+  | inr past ↦ let none = ap (λ (coll : Collection). coll.slots) (get_or_past shape.colls c no_coll past) in absurd (omega (arith, none))
+]
+
+-- every field of a record stands among the most words that a region may have
+pub field-within : (shape : Layout) (c slot field : ℕ) → IsShape shape → slot < slots_of shape c → field < width_of shape c
+    → start_of shape c + entries_of shape c + 3 * slots_of shape c + field_offset (width_of shape c) slot field < MAX_WORDS
+field-within shape c slot field valid ls lf =
+    let end = coll-within shape c (coll-there shape c slot ls) in
+    omega (arith, field_offset-lt (width_of shape c) (slots_of shape c) slot field (slots-whole shape c valid) ls lf, end, valid.words)
+
+-- and so does the first one
+pub first_field-within : (shape : Layout) (c slot : ℕ) → IsShape shape → slot < slots_of shape c
+    → start_of shape c + entries_of shape c + 3 * slots_of shape c + field_offset (width_of shape c) slot 0 < MAX_WORDS
+first_field-within shape c slot valid ls =
+    field-within shape c slot 0 valid ls (valid.coll c (coll-there shape c slot ls)).some_width
 
 -- the collection of a place that stands in one
 abbrev pub home_of : Place → ℕ
@@ -75,16 +107,16 @@ StandsIn coll (Back c slot) = slot < coll.slots
 StandsIn coll (Forward c slot) = slot < coll.slots
 StandsIn coll (Field c slot field) = (slot < coll.slots) × (field < coll.width)
 
--- a place of a collection is among its words
-offset_in-lt : (coll : Collection) (p : Place) → StandsIn coll p → offset_in coll p < coll_words coll
-offset_in-lt coll Epoch r = absurd r
-offset_in-lt coll Round r = absurd r
-offset_in-lt coll (Section pass) r = absurd r
-offset_in-lt coll (Entry c entry) r = omega arith
-offset_in-lt coll (Directory c slot) r = omega arith
-offset_in-lt coll (Back c slot) r = omega arith
-offset_in-lt coll (Forward c slot) r = omega arith
-offset_in-lt coll (Field c slot field) (ls, lf) = omega (arith, field_offset-lt coll.width coll.slots slot field ls lf)
+-- a place of a collection of whole blocks is among its words
+pub offset_in-lt : (coll : Collection) (p : Place) → coll.slots % BLOCK_SLOTS ≡ 0 → StandsIn coll p → offset_in coll p < coll_words coll
+offset_in-lt coll Epoch whole r = absurd r
+offset_in-lt coll Round whole r = absurd r
+offset_in-lt coll (Section pass) whole r = absurd r
+offset_in-lt coll (Entry c entry) whole r = omega arith
+offset_in-lt coll (Directory c slot) whole r = omega arith
+offset_in-lt coll (Back c slot) whole r = omega arith
+offset_in-lt coll (Forward c slot) whole r = omega arith
+offset_in-lt coll (Field c slot field) whole (ls, lf) = omega (arith, field_offset-lt coll.width coll.slots slot field whole ls lf)
 
 -- two places of one collection stand apart in it
 offset_in-apart : (coll : Collection) (p q : Place) → StandsIn coll p → StandsIn coll q → home_of p ≡ home_of q → offset_in coll p ≡ offset_in coll q → p ≡ q
@@ -120,13 +152,13 @@ InRange-home shape (Forward c slot) r = r
 InRange-home shape (Field c slot field) r = r
 
 -- two places of collections have two indices
-homes-apart : (shape : Layout) (p q : Place) → StandsIn (coll_of shape (home_of p)) p → StandsIn (coll_of shape (home_of q)) q → at shape p ≡ at shape q → p ≡ q
-homes-apart shape p q r u e =
+homes-apart : (shape : Layout) (p q : Place) → IsShape shape → StandsIn (coll_of shape (home_of p)) p → StandsIn (coll_of shape (home_of q)) q → at shape p ≡ at shape q → p ≡ q
+homes-apart shape p q valid r u e =
     let c : ℕ = home_of p in
     let d : ℕ = home_of q in
     let is : (c ≡ d) × (offset_in (coll_of shape c) p ≡ offset_in (coll_of shape d) q) =
     words-apart shape.colls c d (offset_in (coll_of shape c) p) (offset_in (coll_of shape d) q)
-    (offset_in-lt (coll_of shape c) p r) (offset_in-lt (coll_of shape d) q u) (omega (arith, at-home shape p r, at-home shape q u, e)) in
+    (offset_in-lt (coll_of shape c) p (slots-whole shape c valid) r) (offset_in-lt (coll_of shape d) q (slots-whole shape d valid) u) (omega (arith, at-home shape p r, at-home shape q u, e)) in
     let same : coll_of shape d ≡ coll_of shape c = ap (coll_of shape) (sym is.0) in
     let owned : StandsIn (coll_of shape c) q = subst (λ (coll : Collection). StandsIn coll q) same u in
     let one : offset_in (coll_of shape c) p ≡ offset_in (coll_of shape c) q = is.1 ∙ ap (λ (coll : Collection). offset_in coll q) same in
@@ -139,7 +171,7 @@ at-lt shape Epoch is r = omega arith
 at-lt shape Round is r = omega arith
 at-lt shape (Section pass) is r = omega arith
 at-lt shape p is r =
-    omega (arith, at-home shape p r, words-within shape.colls (home_of p) (offset_in (coll_of shape (home_of p)) p) (offset_in-lt (coll_of shape (home_of p)) p r))
+    omega (arith, at-home shape p r, words-within shape.colls (home_of p) (offset_in (coll_of shape (home_of p)) p) (offset_in-lt (coll_of shape (home_of p)) p (slots-whole shape (home_of p) is) r))
 
 -- no other place has the first index, nor the second, nor that of a section word
 epoch-alone : (shape : Layout) (q : Place) → InRange shape q → at shape Epoch ≡ at shape q → Epoch ≡ q
@@ -165,7 +197,7 @@ at-apart shape (Section i) q is r u e = section-alone shape i q r u e
 at-apart shape p Epoch is r u e = sym (epoch-alone shape p r (sym e))
 at-apart shape p Round is r u e = sym (round-alone shape p r (sym e))
 at-apart shape p (Section j) is r u e = sym (section-alone shape j p u r (sym e))
-at-apart shape p q is r u e = homes-apart shape p q r u e
+at-apart shape p q is r u e = homes-apart shape p q is r u e
 
 -- how small a collection is that is there, and one that is not
 small-within : (shape : Layout) (c : ℕ) → IsShape shape → c < length shape.colls → (slots_of shape c < MAX_WORDS) × (entries_of shape c < MAX_WORDS)

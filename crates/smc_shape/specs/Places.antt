@@ -1,5 +1,6 @@
 -- The places of a region's words, and the index of each in the row.
-use Rattle.std.specs.Prelude.{◌≡◌, ℕ, ◌+◌, ◌*◌, ◌<◌, take, sum_by}
+use Rattle.std.specs.Prelude.{◌≡◌, ℕ, ◌+◌, ◌*◌, ◌/◌, ◌%◌, ◌<◌, take, sum_by}
+use Rattle.smc_shape.specs.declared.coll.TheConstants.{BLOCK_SLOTS}
 use Rattle.smc_shape.specs.declared.place.Place.{Place}
 use Rattle.smc_shape.specs.declared.place.Place.TheVariants.{Epoch, Round, Section, Entry, Directory, Back, Forward, Field}
 use Rattle.smc_shape.specs.declared.place.TheConstants.{EPOCH_AT, ROUND_AT}
@@ -21,9 +22,11 @@ InRange shape (Field c slot field) = (slot < slots_of shape c) × (field < width
 abbrev pub start_of : Layout → ℕ → ℕ
 start_of shape c = FIRST_SECTION + shape.passes + sum_by coll_words (take c shape.colls)
 
--- where a field stands among the field words of a collection of this width
+-- where a field stands among the field words of a collection of this width: block after block of slots, and in a block
+-- one field of all its slots after the other
 abbrev pub field_offset : ℕ → ℕ → ℕ → ℕ
-field_offset width slot field = slot * width + field
+field_offset width slot field =
+    slot / BLOCK_SLOTS * (BLOCK_SLOTS * width) + field * BLOCK_SLOTS + slot % BLOCK_SLOTS
 
 -- the index of a place in the row of words: a collection has its entries, then its directory, its owners, its
 -- forwarding words, and its fields
@@ -37,6 +40,10 @@ at shape (Back c slot) = start_of shape c + entries_of shape c + slots_of shape 
 at shape (Forward c slot) = start_of shape c + entries_of shape c + 2 * slots_of shape c + slot
 at shape (Field c slot field) =
     start_of shape c + entries_of shape c + 3 * slots_of shape c + field_offset (width_of shape c) slot field
+
+-- the fields of every record stand so many words apart
+abbrev pub IsStride : Layout → ℕ → Type 0
+IsStride shape stride = (c slot field : ℕ) → at shape (Field c slot field) ≡ at shape (Field c slot 0) + field * stride
 
 -- no two places of the region have one index
 abbrev pub LieApart : Layout → Type 0

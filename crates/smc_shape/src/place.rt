@@ -1,6 +1,10 @@
-ghost use Rattle.std.specs.Prelude.{◌≡◌};
-ghost use Rattle.smc_shape.specs.Places.{InRange, at};
+ghost use Rattle.std.specs.Prelude.{◌≡◌, ℕ, ◌+◌, ◌*◌, ◌<◌};
+ghost use Rattle.smc_shape.specs.Layout.{Layout, width_of, slots_of, words_of};
+ghost use Rattle.smc_shape.specs.Places.{InRange, IsStride, at};
+ghost use Rattle.smc_shape.specs.declared.coll.TheConstants.{BLOCK_SLOTS};
+ghost use Rattle.smc_shape.specs.declared.shape.TheConstants.{MAX_WORDS};
 
+use crate::coll::BLOCK_SLOTS;
 use crate::shape::{FIRST_SECTION, Shape};
 
 /// The index of the epoch's word in every row.
@@ -82,14 +86,35 @@ impl Shape {
     }
 
     /// The index of field `f` of the record in `slot` of the collection `c`.
+    /// The index of the first field of the record in `slot` of the collection `c`. The others follow it, each
+    /// `field_stride` words after the one before.
     #[inline]
-    #[tactic(auto, unfolding(crate::specs::Places::at), using(std::proofs::lemmas::Grind::rows))]
+    pub fn first_field_at(&self, c: u8, slot: u32) -> usize
+        requires { slot < slots_of self.now c }
+        ensures first { result ≡ at self.now (Place.Field c slot 0) }
+        ensures within { (f : ℕ) → f < width_of self.now c → result + f * BLOCK_SLOTS < MAX_WORDS }
+    {
+        let span = self.span(c);
+        let block = slot / BLOCK_SLOTS * (BLOCK_SLOTS * span.width);
+        (span.start + span.entries + 3 * span.slots + block + slot % BLOCK_SLOTS) as usize
+    }
+
+    /// How many words each field of a record stands after the one before, in every region.
+    #[inline]
+    pub fn field_stride() -> usize
+        ensures slots { result ≡ BLOCK_SLOTS }
+        ensures stride { (shape : Layout) → IsStride shape result }
+    {
+        BLOCK_SLOTS as usize
+    }
+
+    /// The index of field `f` of the record in `slot` of the collection `c`.
+    #[inline]
     pub fn field_at(&self, c: u8, slot: u32, f: u32) -> usize
         requires { InRange self.now (Place.Field c slot f) }
         ensures { result ≡ at self.now (Place.Field c slot f) }
     {
-        let span = self.span(c);
-        (span.start + span.entries + 3 * span.slots + slot * span.width + f) as usize
+        self.first_field_at(c, slot) + f as usize * Shape::field_stride()
     }
 
     /// The index of `place`.

@@ -137,7 +137,8 @@ impl Shape {
     #[inline]
     pub fn slots(&self, c: u8) -> u32
         requires { c < length self.now.colls }
-        ensures { result ≡ slots_of self.now c }
+        ensures slots { result ≡ slots_of self.now c }
+        ensures few { slots_of self.now c < MAX_WORDS }
     {
         self.span(c).slots
     }

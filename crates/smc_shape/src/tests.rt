@@ -83,6 +83,9 @@ fn check_places(rt: &impl Abort, shape: &Shape)
     assert_eq!(rt; shape.dir_at(1, 127), 579);
     assert_eq!(rt; shape.back_at(1, 0), 580);
     assert_eq!(rt; shape.fwd_at(1, 3), 711);
+    assert_eq!(rt; shape.field_at(1, 0, 0), 836);
+    assert_eq!(rt; shape.field_at(1, 3, 1), 903);
+    assert_eq!(rt; shape.first_field_at(1, 64), 964);
     assert_eq!(rt; shape.field_at(1, 127, 1), 1_091);
 }
 
