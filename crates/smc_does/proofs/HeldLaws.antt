@@ -18,7 +18,7 @@ use Rattle.smc_core.specs.Local.{held_after}
 use Rattle.smc_core.specs.Machine.{Machine, started}
 use Rattle.smc_core.specs.Offer.{held_slot}
 use Rattle.smc_core.specs.Words.{same_number}
-use Rattle.smc_model.specs.World.{World}
+use Rattle.smc_model.specs.World.{World, empty_world}
 use Rattle.smc_rules.specs.History.{History, history_world}
 use Rattle.smc_rules.specs.Memory.{seen}
 use Rattle.smc_rules.specs.Mirror.{anywhere}
@@ -105,6 +105,6 @@ module _ (opening : Opening) (shape : Layout) (valid : IsShape shape) where
 pub held-once : (shape : Layout) (pass : ℕ) (l : Local) → From (one shape pass l) → (x : Held) → Contains l.stand.held x → held_slot l.stand.held x.number ≡ Some x.slot
 held-once shape pass l f x has =
     let r = f.reached in
-    let h = once-then f.opening shape r.valid (was r).0 f.machine (was r).1 in
+    let h = once-then f.opening shape r.valid empty_world f.machine (was r) in
     let within : pass < shape.passes = omega (arith, slice_get_within f.machine.locals pass l f.stands.0, h.backs.count) in
     found-once l.stand.held x (subst (λ (k : Stand). AreOnce k.held) (h.backs.same pass l f.stands.0) (h.rule.each pass within)) has
