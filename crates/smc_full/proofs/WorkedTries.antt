@@ -93,7 +93,7 @@ module _ (first second : Done) (long : ℕ) where
     tried_from None is places kept = absurd (cc)
     tried_from (Some m) is places kept = record {
       valid = valid;
-      history = schedule-history s opens m (reached s m is);
+      history = schedule-history s valid opens m (reached s m is);
       alone = rests-alone 2 0 m (omega arith) (some-same (map place_of m.locals) (at_rest ∷ at_rest ∷ []) places);
       tries = tries_so (shape_of s) m (each_made computed (shape_of s) 0 (trying first second long) long before m kept).0 (each_made computed (shape_of s) 0 (trying first second long) long before m kept).1;
     }

@@ -79,4 +79,4 @@ rule-played reached s valid o some = go (played s) refl some
   where
     go : (m : Option Machine) → played s ≡ m → is_some m ≡ true → IsSomeAnd m (λ k. Backed (shape_of s) is_first (EpochRule (shape_of s)) k.row k.locals)
     go None e some = cc
-    go (Some m) e some = rule-then (shape_of s) valid (opening_of s) empty_world m (schedule-history s o m (reached s m e))
+    go (Some m) e some = rule-then (shape_of s) valid (opening_of s) empty_world m (schedule-history s valid o m (reached s m e))

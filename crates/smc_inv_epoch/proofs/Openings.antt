@@ -1,11 +1,11 @@
 -- The row with which a schedule opens is that of a region without objects.
 use Rattle.std.proofs.Common.{◌≡◌, ℕ, zero, suc, ◌+◌, ◌*◌, ◌<◌, List, ◌∷◌, ◌++◌, length, refl, ap, ◌∙◌, arith}
 use Rattle.std.specs.Prelude.{replicate, slice_index}
-use Rattle.std.proofs.lemmas.Grind.{rows}
 use Rattle.std.proofs.lemmas.List.{length-append, length-replicate}
 use Rattle.smc_words.specs.declared.layout.TheConstants.{BLANK}
-use Rattle.smc_shape.specs.Layout.{words_of}
-use Rattle.smc_shape.specs.Places.{InRange, at}
+use Rattle.smc_shape.specs.Layout.{IsShape, words_of}
+use Rattle.smc_shape.specs.Places.{InRange, at, field_offset}
+use Rattle.smc_shape.proofs.PlaceLaws.{field_offset-lt, slots-whole}
 use Rattle.smc_shape.specs.declared.place.Place.{Place}
 use Rattle.smc_shape.specs.declared.place.Place.TheVariants as place
 use Rattle.smc_core.specs.declared.word.State.TheVariants as state
@@ -38,7 +38,7 @@ last_block (suc n) x (suc i) lt = last_block n x i (omega arith)
 past_two : (g x : ℕ) (rest : List ℕ) (n i : ℕ) → n ≡ 2 + i → slice_index (g ∷ x ∷ rest) n ≡ slice_index rest i
 past_two g x rest n i e = let two : n ≡ suc (suc i) = omega (arith, e) in ap (λ (k : ℕ). slice_index (g ∷ x ∷ rest) k) two
 
-module _ (s : Schedule) where
+module _ (s : Schedule) (valid : IsShape (shape_of s)) where
   abbrev entry : ℕ
   entry = packed (word.Entry (state.Free s.incarnation 0))
 
@@ -56,9 +56,6 @@ module _ (s : Schedule) where
   zero_at : (n i : ℕ) → n ≡ 2 + (s.passes + (s.slots + i)) → i < 3 * s.slots → slice_index (opening_row s) n ≡ 0
   zero_at n i e lt = past_entries n i e ∙ in_block (3 * s.slots) 0 _ i lt
 
-  field-lt : (slot field : ℕ) → slot < s.slots → field < s.width → slot * s.width + field < s.slots * s.width
-  field-lt slot field ls lf = grind (arith, rows)
-
   word_at : (there : Place) → InRange (shape_of s) there → At there
   unfolding at
   word_at place.Epoch r = refl
@@ -69,9 +66,9 @@ module _ (s : Schedule) where
   word_at (place.Back zero slot) r = zero_at (at (shape_of s) (place.Back 0 slot)) (s.slots + slot) (omega arith) (omega (arith, r))
   word_at (place.Forward zero slot) r = zero_at (at (shape_of s) (place.Forward 0 slot)) (2 * s.slots + slot) (omega arith) (omega (arith, r))
   word_at (place.Field zero slot field) r =
-      let i : ℕ = slot * s.width + field in
+      let i : ℕ = field_offset s.width slot field in
       past_entries (at (shape_of s) (place.Field 0 slot field)) (3 * s.slots + i) (omega arith)
-      ∙ (past_block (3 * s.slots) 0 _ i ∙ last_block (s.slots * s.width) BLANK i (field-lt slot field r.0 r.1))
+      ∙ (past_block (3 * s.slots) 0 _ i ∙ last_block (s.slots * s.width) BLANK i (field_offset-lt s.width s.slots slot field (slots-whole (shape_of s) 0 valid) r.0 r.1))
   word_at (place.Entry (suc c) e) r = absurd (omega (arith, r))
   word_at (place.Directory (suc c) slot) r = absurd (omega (arith, r))
   word_at (place.Back (suc c) slot) r = absurd (omega (arith, r))
@@ -87,6 +84,6 @@ module _ (s : Schedule) where
   schedule-opened = record { long = long; words = word_at }
 
 -- so a machine to which it can be played has a history, from the empty world
-pub schedule-history : (s : Schedule) → IsOpening (opening_of s) → (m : Machine) → Reach (shape_of s) (opening_row s) m.row m.locals → History (shape_of s) (opening_of s) empty_world m
-schedule-history s opens m reached =
-    record { start = opening_row s; starts = new_starts (shape_of s) (opening_of s) (opening_row s) opens (schedule-opened s); steps = reached.0; leads = reached.1 }
+pub schedule-history : (s : Schedule) → IsShape (shape_of s) → IsOpening (opening_of s) → (m : Machine) → Reach (shape_of s) (opening_row s) m.row m.locals → History (shape_of s) (opening_of s) empty_world m
+schedule-history s valid opens m reached =
+    record { start = opening_row s; starts = new_starts (shape_of s) (opening_of s) (opening_row s) opens (schedule-opened s valid); steps = reached.0; leads = reached.1 }

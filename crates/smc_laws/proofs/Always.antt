@@ -27,7 +27,7 @@ pub rules-played : ((s : Schedule) (m : Machine) → played s ≡ Some m → Rea
 rules-played reached s valid o some = go (played s) refl some
   where
     history : (m : Machine) → played s ≡ Some m → History (shape_of s) (opening_of s) empty_world m
-    history m e = schedule-history s o m (reached s m e)
+    history m e = schedule-history s valid o m (reached s m e)
 
     go : (m : Option Machine) → played s ≡ m → is_some m ≡ true
         → IsSomeAnd m (λ k. (h : History (shape_of s) (opening_of s) empty_world k) × AllRules (shape_of s) (opening_of s) (history_state h))

@@ -125,7 +125,7 @@ module _ (computed : StepsAreComputed) (reached : SchedulesAreReached) (s : Sche
         last,
         form,
         drives-pack (shape_of s) (opening_of s) empty_world 0 m valid
-            (schedule-history s opens m (reached s m is))
+            (schedule-history s valid opens m (reached s m is))
             (rests-alone 2 0 m (omega arith) here) 0 last (drives m last form),
       )
 
