@@ -34,7 +34,8 @@ reads_all-more number field (first ∷ words) word =
 pub read-more : (first now next : Caller) (number : Number) (words new : List ℕ) (field word : ℕ) → Does first now (reads_all number 0 (take field words)) → Does now next (reads number field word)
     → field < length words → new ≡ slice_set words field word → Does first next (reads_all number 0 (take (field + 1) new))
 read-more first now next number words new field word does more below is =
-    let long : length (take field words) ≡ field = length-take-le field words (omega (arith, below)) in
+    let short : length (take field words) ≡ field = length-take-le field words (omega (arith, below)) in
+    let long : 0 + length (take field words) ≡ field = omega (arith, short) in
     let taken : take (field + 1) new ≡ take field words ++ word ∷ [] = ap (λ (k : List ℕ). take (field + 1) k) is ∙ take_more_set words field word below in
     subst (λ (k : List ℕ). Does first next (reads_all number 0 k)) (sym taken)
     (subst (λ (k : List CallEnd). Does first next k) (sym (reads_all-more number 0 (take field words) word ∙ ap (λ (k : ℕ). reads_all number 0 (take field words) ++ reads number k word) long))

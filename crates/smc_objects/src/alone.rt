@@ -5,7 +5,7 @@ ghost use Rattle.smc_words.specs.declared.layout.TheConstants.{BLANK};
 ghost use Rattle.smc_shape.specs.Layout.{width_of};
 ghost use Rattle.smc_core.specs.declared.phase.Phase.TheVariants.{Idle};
 ghost use Rattle.smc_core.specs.Add.{has_no_blank};
-ghost use Rattle.smc_region.specs.Callers.{IsPassOf};
+ghost use Rattle.smc_region.specs.Callers.{IsPassOf, IsSame};
 ghost use Rattle.smc_does.specs.Does.{Does, DoesSome, IsHeld, Stays};
 ghost use Rattle.smc_objects.specs.Alone.{AddsRow, AdvancesThrice, CountsObjects, InSection, ReadsObject, RemovesObject, SetsField, TriesAdd, reads_all};
 
@@ -23,6 +23,7 @@ fn try_one(pass: Pass, region: &Region, c: u8, words: &[u64]) -> (Pass, Result<N
     requires width { length words.now ≡ width_of pass.shape c }
     requires values { IsTrue (has_no_blank words.now) }
     ensures done { DoesSome pass result.0 (InSection (TriesAdd c words.now result.1)) }
+    ensures home { IsSame pass result.0 }
     ensures number { IfOk result.1 (λ number. FitsNumber number × (number.coll ≡ c)) }
 {
     let mut section = pass.enter(region);
@@ -34,6 +35,7 @@ fn try_one(pass: Pass, region: &Region, c: u8, words: &[u64]) -> (Pass, Result<N
 fn advance_thrice(pass: &mut Pass, region: &Region)
     requires here { IsPassOf region.now pass.old }
     ensures done { DoesSome pass.old pass.new AdvancesThrice }
+    ensures home { IsSame pass.old pass.new }
 {
     pass.advance(region);
     pass.advance(region);
@@ -50,6 +52,7 @@ pub fn add_one(pass: Pass, region: &Region, c: u8, words: &[u64]) -> (Pass, Resu
     requires width { length words.now ≡ width_of pass.shape c }
     requires values { IsTrue (has_no_blank words.now) }
     ensures done { DoesSome pass result.0 (AddsRow c words.now result.1) }
+    ensures home { IsSame pass result.0 }
     ensures number { IfOk result.1 (λ number. FitsNumber number × (number.coll ≡ c)) }
 {
     let (mut pass, answer) = try_one(pass, region, c, words);
@@ -98,6 +101,7 @@ pub fn read_one(pass: Pass, region: &Region, number: Number, words: &mut [u64]) 
     requires coll { number.coll < length pass.shape.colls }
     requires long { length words.old ≡ width_of pass.shape number.coll }
     ensures done { DoesSome pass result.0 (InSection (ReadsObject number result.1 words.new)) }
+    ensures home { IsSame pass result.0 }
 {
     let mut section = pass.enter(region);
     let found = read_found(&mut section, number, words);
@@ -125,6 +129,7 @@ pub fn set_one(pass: Pass, region: &Region, number: Number, field: u32, value: u
     requires field { field < width_of pass.shape number.coll }
     requires value { value < BLANK }
     ensures done { DoesSome pass result.0 (InSection (SetsField number field value result.1)) }
+    ensures home { IsSame pass result.0 }
 {
     let mut section = pass.enter(region);
     let found = write_found(&mut section, number, field, value);
@@ -147,6 +152,7 @@ fn remove_found(s: &mut Section<'_>, number: Number) -> bool
 pub fn remove_one(pass: Pass, region: &Region, number: Number) -> (Pass, bool)
     requires here { IsPassOf region.now pass }
     ensures done { DoesSome pass result.0 (InSection (RemovesObject number result.1)) }
+    ensures home { IsSame pass result.0 }
 {
     let mut section = pass.enter(region);
     let gone = remove_found(&mut section, number);
@@ -177,6 +183,7 @@ pub fn count_objects(pass: Pass, region: &Region, c: u8) -> (Pass, u64)
     requires here { IsPassOf region.now pass }
     requires coll { c < length pass.shape.colls }
     ensures done { DoesSome pass result.0 (InSection (CountsObjects c result.1)) }
+    ensures home { IsSame pass result.0 }
 {
     let mut section = pass.enter(region);
     let objects = count(&mut section, c);
