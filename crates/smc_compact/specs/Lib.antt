@@ -1,0 +1,10 @@
+pub mod Counting
+pub mod Begins
+pub mod Endings
+pub mod Calls
+pub mod Waits
+pub mod Paces
+pub mod Drives
+pub mod Parts
+pub mod Packs
+pub mod Shown
