@@ -3,6 +3,7 @@ use Rattle.std.proofs.Common.{◌≡◌, ℕ, ◌+◌, ◌≤◌, ◌<◌, Bool,
 use Rattle.std.specs.Prelude.{flat_map}
 use Rattle.std.proofs.lemmas.List.Concat.{flat_map-append}
 use Rattle.smc_shape.specs.Layout.{Layout}
+use Rattle.smc_model.specs.declared.event.Event.TheVariants as event
 use Rattle.smc_core.specs.declared.done.Done.{Done}
 use Rattle.smc_core.specs.declared.done.Done.TheVariants as done
 use Rattle.smc_core.specs.declared.local.Answer.{Answer}
@@ -15,7 +16,7 @@ use Rattle.smc_region.specs.Named.{latest}
 use Rattle.smc_trace.specs.Named.{advances, enters, leaves, rounds}
 use Rattle.smc_trace.specs.Trace.{CallEnd, Tells, answers_in}
 use Rattle.smc_trace.proofs.TraceSteps.{tells-then}
-use Rattle.smc_does.proofs.Bridges.{entered-tells, left-tells}
+use Rattle.smc_does.proofs.Bridges.{tells-one}
 use Rattle.smc_compact.specs.declared.begun.Begun.{Begun}
 use Rattle.smc_compact.specs.declared.begun.Begun.TheVariants as begun
 use Rattle.smc_compact.specs.declared.begun.Round.{Round}
@@ -34,11 +35,11 @@ same-then a b c one two = (two.0 ∙ one.0, two.1 ∙ one.1, two.2 ∙ one.2)
 
 -- a section begins
 enters-tells : (p s : Local) (epoch : ℕ) (calm : Bool) → s ≡ entered p epoch calm → Tells p s (enters epoch)
-enters-tells p s epoch calm is = subst (λ (l : Local). Tells p l (enters epoch)) (sym is) (entered-tells p epoch calm)
+enters-tells p s epoch calm is = subst (λ (l : Local). Tells p l (enters epoch)) (sym is) (tells-one p (entered p epoch calm) event.Enter (done.At epoch) refl refl)
 
 -- it ends
 leaves-tells : (t q : Local) → q ≡ left t → Tells t q leaves
-leaves-tells t q is = subst (λ (l : Local). Tells t l leaves) (sym is) (left-tells t)
+leaves-tells t q is = subst (λ (l : Local). Tells t l leaves) (sym is) (tells-one t (left t) event.Leave done.Out refl refl)
 
 -- calls in a section of their own
 pub section-tells : (p s t q : Local) (epoch : ℕ) (calm : Bool) (calls : List CallEnd) → s ≡ entered p epoch calm → Tells s t calls → q ≡ left t

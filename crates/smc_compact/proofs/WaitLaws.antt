@@ -16,7 +16,7 @@ use Rattle.smc_region.specs.Named.{IsLow, Rises, latest, named}
 use Rattle.smc_trace.specs.Named.{advances}
 use Rattle.smc_trace.specs.Trace.{CallEnd}
 use Rattle.smc_does.specs.Does.{Does}
-use Rattle.smc_does.proofs.Bridges.{tells-none}
+use Rattle.smc_does.proofs.Bridges.{answer-does}
 use Rattle.smc_does.proofs.DoesLaws.{does-then}
 use Rattle.smc_compact.specs.declared.outcome.Waited.{Waited}
 use Rattle.smc_compact.specs.declared.outcome.Waited.TheVariants as waited
@@ -114,17 +114,10 @@ reaches-first None now after ended is reaches = reaches-any after ended
 reaches-first (Some until) now after ended is reaches = subst (λ (k : Option ℕ). Reaches k after ended) is reaches
 
 -- an advance more
-does-advance : (old new : Caller) (one : Done) → IsSame old new → new.local ≡ answered_by old.local new.local.steps one → Does old new (advances one)
-does-advance old new one same is = record {
-  same = same;
-  tells = tells-none old.local new.local one (ap (λ (l : Local). l.log) is) (ap (λ (l : Local). l.answers) is);
-  free = λ none. ap (λ (l : Local). l.stand.round) is ∙ none;
-}
-
 pub does-more : (old now new : Caller) (answers : List Done) (one : Done) → Does old now (flat_map advances answers) → IsSame now new
     → new.local ≡ answered_by now.local new.local.steps one → Does old new (flat_map advances (answers ++ one ∷ []))
 does-more old now new answers one does same is =
-    subst (λ (calls : List CallEnd). Does old new calls) (sym (flat_map-append advances answers (one ∷ []))) (does-then does (does-advance now new one same is))
+    subst (λ (calls : List CallEnd). Does old new calls) (sym (flat_map-append advances answers (one ∷ []))) (does-then does (answer-does now new new.local.steps one same is))
 
 pub keeps-more : (old now new : Local) (one : Done) → Keeps old now → new ≡ answered_by now new.steps one → Keeps old new
 keeps-more old now new one keeps is = record {

@@ -12,8 +12,11 @@ use Rattle.smc_core.specs.declared.phase.moves.CountPhase.TheVariants as walk
 use Rattle.smc_core.specs.declared.phase.moves.Counting.{Counting}
 use Rattle.smc_core.specs.declared.phase.moves.Counting.TheVariants.{Walks, Counted}
 use Rattle.smc_core.specs.Begin.{begin_counting}
-use Rattle.smc_core.specs.Count.{survey_change}
+use Rattle.smc_core.specs.Count.{count_next, survey_change}
 use Rattle.smc_core.specs.Local.{logged, answered}
+use Rattle.smc_core.specs.Section.{epoch_of}
+use Rattle.smc_region.specs.Callers.{Caller}
+use Rattle.smc_compact.specs.Shown.{with_slot}
 
 -- a call in progress, or ended, that is no add: what its last step has changed, when the pass has taken so many steps in all
 abbrev pub going : Local → ℕ → Change → Local
@@ -40,6 +43,11 @@ counting_change false shape epoch counting = survey_change counting
 -- the walk goes on at this slot, or has passed each
 abbrev pub to_count : Layout → ℕ → ℕ → Count → Counting
 to_count shape coll slot count = if nat_lt slot (slots_of shape coll) then Walks (walk.Directory coll slot count) else Counted coll count
+
+-- what the walk changes by passing a slot, in which there is an object or none
+abbrev pub passes_slot : Bool → Caller → ℕ → ℕ → Bool → Count → Change
+passes_slot begins pass coll slot has count =
+    counting_change begins pass.shape (epoch_of pass.local.stand.section) (count_next pass.shape coll slot (with_slot slot has count))
 
 -- no more objects are counted than slots are passed, and no more blocks than objects
 pub record IsFew (slot : ℕ) (count : Count) : Type 0 where

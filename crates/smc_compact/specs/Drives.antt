@@ -8,7 +8,7 @@ use Rattle.smc_region.specs.declared.advance.Advance.{Advance}
 use Rattle.smc_region.specs.declared.advance.Advance.TheVariants as advance
 use Rattle.smc_region.specs.Advances.{Advances, done_of}
 use Rattle.smc_region.specs.Callers.{Caller, IsSame}
-use Rattle.smc_trace.specs.Named.{advances, enters, leaves, rounds}
+use Rattle.smc_trace.specs.Named.{advances, enters, finishes, leaves, rounds}
 use Rattle.smc_trace.specs.Trace.{CallEnd, Tells}
 use Rattle.smc_compact.specs.declared.outcome.Outcome.{Outcome}
 use Rattle.smc_compact.specs.declared.outcome.Outcome.TheVariants as outcome
@@ -29,6 +29,10 @@ ClosesBy (waited.Later pass seen) done.Cancelled ended = ended ≡ outcome.Later
 ClosesBy waited.Spent done.Cancelled ended = ended ≡ outcome.Spent
 ClosesBy _ _ ended = ⊥
 
+-- the call that ends a round, by its answer: a finish, or a cancel, which has always the same
+abbrev pub closes : Done → List CallEnd
+closes answer = finishes answer
+
 -- with a round open that has this bound, and so many turns left, a drive waits for the epoch two above the bound, and ends the
 -- round in a section
 pub record Closes (bound turns : ℕ) (ended : Outcome) (calls : List CallEnd) : Type 0 where
@@ -37,7 +41,7 @@ pub record Closes (bound turns : ℕ) (ended : Outcome) (calls : List CallEnd) :
   pub epoch : ℕ
   pub answer : Done
   pub waits_for : waiting_by (Some (bound + 2)) turns waits ≡ Some (waiting.Ends waited)
-  pub made : calls ≡ flat_map advances waits ++ in_section epoch (rounds answer)
+  pub made : calls ≡ flat_map advances waits ++ in_section epoch (closes answer)
   pub is : ClosesBy waited answer ended
 
 -- the begin of a drive has ended with this answer in a section at this epoch: the calls behind that section

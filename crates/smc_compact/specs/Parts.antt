@@ -10,7 +10,7 @@ use Rattle.smc_compact.specs.declared.begun.Begun.{Begun}
 use Rattle.smc_compact.specs.declared.begun.Begun.TheVariants as begun
 use Rattle.smc_compact.specs.declared.outcome.Outcome.{Outcome}
 use Rattle.smc_compact.specs.Calls.{HasBound, OwnsBy, begun_done}
-use Rattle.smc_compact.specs.Drives.{ByBegin, Closes, DriveCause, Drives, advances_in, in_section}
+use Rattle.smc_compact.specs.Drives.{ByBegin, Closes, DriveCause, Drives, advances_in, closes, in_section}
 
 -- the pass has made a drive that ended so
 pub record HasDriven (coll turns : ℕ) (old new : Caller) (ended : Outcome) : Type 0 where
@@ -45,5 +45,5 @@ pub record HasOpened (coll : ℕ) (old new : Caller) (answer : Begun) : Type 0 w
 -- it has ended its round in a section of its own
 pub record HasEnded (old new : Caller) (answer : Done) : Type 0 where
   pub epoch : ℕ
-  pub tells : Tells old.local new.local (in_section epoch (rounds answer))
+  pub tells : Tells old.local new.local (in_section epoch (closes answer))
   pub owns : OwnsNone new

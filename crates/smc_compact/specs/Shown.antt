@@ -1,5 +1,5 @@
 -- What the steps of a walk showed of each slot, and what was counted by it.
-use Rattle.std.specs.Prelude.{◌≡◌, ℕ, ◌+◌, ◌≤◌, ◌<◌, Bool, true, false, Option, Some, None, List, [], ◌∷◌, length}
+use Rattle.std.specs.Prelude.{◌≡◌, ℕ, ◌+◌, ◌≤◌, ◌<◌, Bool, true, false, if◌then◌else◌, Option, Some, None, List, [], ◌∷◌, length}
 use Rattle.smc_words.specs.declared.number.Number.{Number}
 use Rattle.smc_shape.specs.Layout.{Layout, slots_of}
 use Rattle.smc_shape.specs.declared.place.Place.{Place}
@@ -45,15 +45,25 @@ abbrev pub AllShown : Layout → ℕ → ℕ → ℕ → ℕ → ℕ → List Bo
 AllShown shape pass first last coll slot [] = Unit {0}
 AllShown shape pass first last coll slot (has ∷ later) = Shows shape pass first last coll slot has × AllShown shape pass first last coll (slot + 1) later
 
--- the count with the slot, and with an object in it or none
+-- the count with the slot, in which there is an object or none
 abbrev pub with_slot : ℕ → Bool → Count → Count
-with_slot slot true count = with_object slot count
-with_slot slot false count = count
+with_slot slot has count = if has then with_object slot count else count
 
 -- the count with each of these slots, from this one on
 abbrev pub with_slots : ℕ → List Bool → Count → Count
 with_slots slot [] count = count
 with_slots slot (has ∷ later) count = with_slots (slot + 1) later (with_slot slot has count)
+
+-- the count with one slot more is this, as such steps showed of the slot
+abbrev pub CountsSlot : Layout → ℕ → ℕ → ℕ → ℕ → ℕ → Count → Count → Type 0
+CountsSlot shape pass first last coll slot count now = (has : Bool) × Shows shape pass first last coll slot has × (now ≡ with_slot slot has count)
+
+-- this is the count of so many slots from the front, as steps behind so many and before so many showed of each
+pub record CountsTo (shape : Layout) (pass first last coll slots : ℕ) (count : Count) : Type 0 where
+  pub shown : List Bool
+  pub each : length shown ≡ slots
+  pub all : AllShown shape pass first last coll 0 shown
+  pub is : count ≡ with_slots 0 shown no_count
 
 -- so many objects were counted, in so many blocks, as steps behind so many and before so many showed of each slot
 pub record Counts (shape : Layout) (pass first last coll objects blocks : ℕ) : Type 0 where
@@ -63,9 +73,8 @@ pub record Counts (shape : Layout) (pass first last coll objects blocks : ℕ) :
   pub objects_are : objects ≡ (with_slots 0 shown no_count).objects
   pub blocks_are : blocks ≡ (with_slots 0 shown no_count).blocks
 
--- a begin that found no other round open has counted the objects: in no more blocks than they need where there was nothing to do,
--- and else in more
+-- a begin that finds nothing to do has counted the objects in no more blocks than so many need
 abbrev pub CountsFor : Caller → Caller → ℕ → Begun → Type 0
 CountsFor old new coll (begun.Busy seen) = Unit {0}
 CountsFor old new coll begun.Nothing = (objects blocks : ℕ) × Counts old.shape old.number old.local.steps new.local.steps coll objects blocks × (blocks ≤ blocks_for objects)
-CountsFor old new coll (begun.Round round) = (objects blocks : ℕ) × Counts old.shape old.number old.local.steps new.local.steps coll objects blocks × (blocks_for objects < blocks)
+CountsFor old new coll (begun.Round round) = Unit {0}

@@ -7,7 +7,7 @@ ghost use Rattle.smc_core.specs.declared.phase.moves.CancelPhase.TheVariants as 
 ghost use Rattle.smc_core.specs.Cancel.{next_cancelled};
 ghost use Rattle.smc_core.specs.Step.{goes};
 ghost use Rattle.smc_region.specs.Callers.{IsSame, answered_by};
-ghost use Rattle.smc_trace.specs.Named.{rounds};
+ghost use Rattle.smc_trace.specs.Named.{cancels};
 ghost use Rattle.smc_trace.specs.Trace.{Tells};
 ghost use Rattle.smc_does.specs.Does.{OwnsNone, Stays};
 ghost use Rattle.smc_compact.specs.Begins.{owning};
@@ -133,7 +133,7 @@ pub fn cancel(r: Round, s: &mut Section<'_>)
     requires idle { s.old.local.stand.phase ≡ phase.Idle }
     requires round { IsRoundOf s.old r }
     ensures same { IsSame s.old s.new }
-    ensures done { Tells s.old.local s.new.local (rounds done.Cancelled) }
+    ensures done { Tells s.old.local s.new.local cancels }
     ensures none { OwnsNone s.new }
     ensures stays { Stays s.old s.new }
     ensures scans { s.new.local.stand.scans ≡ s.old.local.stand.scans }

@@ -233,6 +233,7 @@ pub fn drive(p: Pass, region: &Region, c: u8, turns: u32) -> (Pass, Outcome)
     requires none { OwnsNone p }
     ensures done { DoesSome p result.0 (Drives c turns result.1) }
     ensures cause { DoesSome p result.0 (DriveCause p result.1) }
+    ensures home { IsSame p result.0 }
     ensures none { OwnsNone result.0 }
     ensures keeps { Keeps p.local result.0.local }
 {

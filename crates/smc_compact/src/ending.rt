@@ -10,7 +10,7 @@ ghost use Rattle.smc_core.specs.Section.{epoch_of};
 ghost use Rattle.smc_core.specs.Step.{goes};
 ghost use Rattle.smc_core.specs.Words.{has_object};
 ghost use Rattle.smc_region.specs.Callers.{IsSame};
-ghost use Rattle.smc_trace.specs.Named.{rounds};
+ghost use Rattle.smc_trace.specs.Named.{finishes};
 ghost use Rattle.smc_trace.specs.Trace.{Tells};
 ghost use Rattle.smc_does.specs.Does.{Stays};
 ghost use Rattle.smc_compact.specs.Calls.{EndsBy, IsRoundOf, Keeps, finished_done};
@@ -328,7 +328,7 @@ pub fn finish(r: Round, s: &mut Section<'_>) -> Finished
     requires idle { s.old.local.stand.phase ≡ phase.Idle }
     requires round { IsRoundOf s.old r }
     ensures same { IsSame s.old s.new }
-    ensures done { Tells s.old.local s.new.local (rounds (finished_done (epoch_of s.old.local.stand.section) result)) }
+    ensures done { Tells s.old.local s.new.local (finishes (finished_done (epoch_of s.old.local.stand.section) result)) }
     ensures ends { EndsBy s.new (epoch_of s.old.local.stand.section) r result }
     ensures stays { Stays s.old s.new }
     ensures scans { s.new.local.stand.scans ≡ s.old.local.stand.scans }

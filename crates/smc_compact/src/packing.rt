@@ -1,8 +1,7 @@
 //! A collection is packed, and counted afterwards.
 ghost use Rattle.std.specs.Prelude.{◌≡◌, ◌<◌, ◌≤◌, length};
-ghost use Rattle.smc_region.specs.Callers.{IsPassOf};
+ghost use Rattle.smc_region.specs.Callers.{IsPassOf, IsSame};
 ghost use Rattle.smc_does.specs.Does.{DoesSome, OwnsNone};
-ghost use Rattle.smc_trace.specs.Named.{surveys};
 ghost use Rattle.smc_compact.specs.Calls.{Keeps};
 ghost use Rattle.smc_compact.specs.Packs.{HasSurveyed, Packs};
 
@@ -25,6 +24,7 @@ fn survey_alone(p: Pass, region: &Region, c: u8) -> (Pass, Census)
     requires here { IsPassOf region.now p }
     requires coll { c < length p.shape.colls }
     ensures done { DoesSome p result.0 (HasSurveyed c result.1) }
+    ensures home { IsSame p result.0 }
     ensures keeps { Keeps p.local result.0.local }
 {
     let mut section = p.enter(region);
@@ -39,6 +39,7 @@ pub fn pack(p: Pass, region: &Region, c: u8, turns: u32) -> (Pass, Packed)
     requires turns { (0 < turns) × (turns ≤ 1_000_000) }
     requires none { OwnsNone p }
     ensures done { DoesSome p result.0 (Packs c turns result.1) }
+    ensures home { IsSame p result.0 }
     ensures none { OwnsNone result.0 }
     ensures keeps { Keeps p.local result.0.local }
 {

@@ -15,10 +15,11 @@ ghost use Rattle.smc_trace.specs.Trace.{Tells};
 ghost use Rattle.smc_does.specs.Does.{Stays};
 ghost use Rattle.smc_compact.specs.Calls.{HasBound, IsBusyFor, Keeps, OwnsBy, begun_done};
 ghost use Rattle.smc_compact.specs.Counting.{IsFew, going};
+ghost use Rattle.smc_compact.specs.Shown.{Counts, CountsFor};
 ghost use Rattle.smc_compact.specs.Begins.{Begins, IsAlong, target_steps, targets_by, walked};
 
 use crate::begun::{Begun, Round};
-use crate::counting::count_slot;
+use crate::counting::{count_slot, no_count};
 use smc_core::{Count, Op, State, Walk, Word};
 use smc_region::{Chosen, Section, is_ripe_slot};
 use smc_shape::{BLOCK_SLOTS, Place};
@@ -212,13 +213,10 @@ fn count(s: &mut Section<'_>, c: u8, slots: u32) -> Count
     ensures same { IsSame s.old s.new }
     ensures steps { s.new.local.steps ≤ s.old.local.steps + 3 * slots }
     ensures few { IsFew slots result }
-    ensures counted { s.new.local ≡ going s.old.local s.new.local.steps (begin_counted s.old.shape (epoch_of s.old.local.stand.section) c result) }
+    ensures passed { s.new.local ≡ going s.old.local s.new.local.steps (begin_counted s.old.shape (epoch_of s.old.local.stand.section) c result) }
+    ensures counted { Counts s.old.shape s.old.number s.old.local.steps s.new.local.steps c result.objects result.blocks }
 {
-    let mut count = Count {
-        objects: 0,
-        blocks: 0,
-        next: 0,
-    };
+    let mut count = no_count();
     for slot in 0..slots {
         count = count_slot::<true>(s, c, slot, count);
     }
@@ -233,6 +231,7 @@ fn begin_by_steps(s: &mut Section<'_>, c: u8) -> Begun
     ensures few { s.new.local.steps ≤ s.old.local.steps + 2 + slots_of s.old.shape c * (width_of s.old.shape c + 13) }
     ensures begun { Begins result (epoch_of s.old.local.stand.section) c s.old.local s.new.local }
     ensures busy { IsBusyFor s.old s.new.local result }
+    ensures counted { CountsFor s.old s.new c result }
 {
     let bound = s.epoch() + 1;
     let slots = s.region().shape().slots(c);
@@ -291,6 +290,7 @@ pub fn begin(s: &mut Section<'_>, c: u8) -> Begun
     ensures owns { OwnsBy s.old s.new result }
     ensures bound { HasBound c (epoch_of s.old.local.stand.section) result }
     ensures busy { IsBusyFor s.old s.new.local result }
+    ensures counted { CountsFor s.old s.new c result }
     ensures stays { Stays s.old s.new }
     ensures scans { s.new.local.stand.scans ≡ s.old.local.stand.scans }
     ensures keeps { Keeps s.old.local s.new.local }

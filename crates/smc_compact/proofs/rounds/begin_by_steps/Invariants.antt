@@ -16,6 +16,7 @@ invariant-loop-source l = record {
   within : l.walk.target ≤ l.kept;
   few : l.walk.moves ≤ l.walk.target;
   low : l.walk.target ≤ l.slots;
+  near : l.source ≤ l.kept + l.slots;
   steps : l.s.local.steps + 3 * l.kept ≤ l.fn.s.local.steps + 1 + 3 * l.slots + 3 * l.source + l.walk.target * target_steps l.fn.s.shape l.c;
   local : l.s.local ≡ going (owning l.fn.s.local (Some (record { bound = l.bound; coll = l.c }))) l.s.local.steps (to_source l.fn.s.shape (epoch_of l.fn.s.local.stand.section) (record l.walk { source = l.source }));
 }
