@@ -171,10 +171,8 @@ def terms(*ts):
     return "grind (arith, nat_tests" + "".join(", " + at(t) for t in ts) + ")"
 
 
-TERM[("source_entry", "c_resting")] = ("by_eq i p (λ y. " + terms("placed m.coll a e m.source", "standing_in p m.coll a e m.source in_n", "calls p in_n") + ") (λ n. " + terms("c_resting i c' s' a' e' li") + ")")
 TERM[("claim_target", "c_resting")] = ("by_eq i p (λ y. " + terms("c_resting p m.coll m.source a e in_n", BELOW["claim_target"]) + ") (λ n. " + terms("c_resting i c' s' a' e' li", "calls p in_n", OIP, CI) + ")")
 TERM[("claim_target", "one_slot")] = ("by_eq i p (λ y. " + terms("c_slot j c' s' lj", "calls p in_n", SEC) + ") (λ n. " + terms("one_slot i j c' s' li lj", "c_slot i c' s' li", "calls p in_n", SEC) + ")")
-TERM[("claim_target", "held")] = terms("held i c' a' e' s' li", "calls p in_n", SEC, SI)
 COPYING = "(λ (l : Stand). copying_of l.phase ≡ Some (record { number = object a' e' c'; source = s'; next = n' }))"
 for k_, found in (("starts_look", "start_copies sh calm a e c (st.memory (place.Entry c e)) a' e' c' s' n' pre1"), ("look_load", "load_copies sh who calm a e c (state_in st.memory c e) a' e' c' s' n'")):
     for f_ in JS:
@@ -204,14 +202,10 @@ def looks(k_, who):
 looks("starts_look", "seeker.Caller")
 looks("look_load", "who")
 
-TERM[("source_entry", "c_resting")] = ("by_eq i p (λ y. " + terms("at_rest sh st h p m.coll a e m.source in_n", "calls p in_n") + ") (λ n. " + terms("c_resting i c' s' a' e' li") + ")")
-TERM[("claim_target", "held")] = terms("held i c' a' e' s' li", f"ripe_target sh st h p x calm m {'(object a e m.coll)'} d in_n at_sec at_call", SEC, SI)
 
 ORIGIN = "(λ (l : Stand). origin_of l.phase ≡ Some (s', object a' e' c'))"
 TERM[("source_entry", "c_resting")] = (f"by_eq i p (λ y. let seen = source_seen sh x m (object a e m.coll) (state_in st.memory m.coll e) s' (object a' e' c') (subst {ORIGIN} (put_stand-same st.stands p i _ y) is) in "
     "let rest : dir_in st.memory m.coll m.source ≡ dir.Valid = at_rest sh st h p m.coll a e m.source in_n (grind (arith, (calls h).calls p in_n)) (grind (arith, at_call)) (grind (arith, seen.0)) in grind (arith, nat_tests, seen, rest)) (λ n. " + terms("c_resting i c' s' a' e' li") + ")")
-TERM[("claim_target", "held")] = ("by_true (same_word (st.memory (place.Directory m.coll m.target)) (word.Directory d) && (s' == m.target && c' == m.coll)) "
-    "(λ t. absurd (held_unripe sh st h i p x c' a' e' s' calm d li in_n at_sec (grind (arith, nat_tests)) (grind (arith, nat_tests)) (ripe_target sh st h p x calm m (object a e m.coll) d in_n at_sec at_call))) (λ f. " + terms("held i c' a' e' s' li") + ")")
 
 HELD_AT = "held_slot {l}.held (object a' e' c') ≡ Some s'"
 TERM[("claim_target", "held")] = (
