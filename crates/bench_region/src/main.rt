@@ -10,7 +10,7 @@ ghost use Rattle.smc_shape.specs.Layout.{asked, width_of};
 ghost use Rattle.smc_shape.specs.Places.{at};
 ghost use Rattle.smc_shape.specs.declared.place.Place.TheVariants.{Field};
 ghost use Rattle.smc_core.specs.declared.phase.Phase.TheVariants.{Idle, Add};
-ghost use Rattle.smc_core.specs.declared.phase.objects.AddPhase.TheVariants.{StoreBack};
+ghost use Rattle.smc_core.specs.declared.phase.objects.AddPhase.TheVariants.{FindEntry, StoreBack};
 ghost use Rattle.smc_core.specs.Add.{takes};
 ghost use Rattle.smc_core.specs.Offer.{held_slot};
 ghost use Rattle.smc_rules.specs.Reads.{object};
@@ -68,6 +68,57 @@ fn read_fields(section: &mut Section<'_>, held: Held, first: usize, width: u32, 
     sum
 }
 
+/// Starts the add of a region's first object. Answers whether it has claimed the first slot.
+fn claim_first_slot(section: &mut Section<'_>, words: &[u64]) -> bool
+    requires idle { section.old.local.stand.phase ≡ Idle }
+    requires takes { IsTrue (takes section.old.shape 0 0 words.now) }
+    ensures same { IsSame section.old section.new }
+    ensures claimed { IsTrue result → section.new.local.stand.phase ≡ Add (FindEntry 0 0 0 0) }
+    ensures words { IsTrue result → section.new.local.stand.words ≡ words.now }
+{
+    let place = Place::Directory { coll: 0, slot: 0 };
+    let free = Word::Directory(Dir::Free);
+    let add = Chosen::Add {
+        coll: 0,
+        from: 0,
+        words,
+    };
+    let _ = section.calm();
+    if !section.take(add, Op::Load { place }).same(free) {
+        return false;
+    }
+    let claim = Op::Exchange {
+        place,
+        expect: free,
+        put: Word::Directory(Dir::Claimed),
+    };
+    section.take(Chosen::Go, claim).same(free)
+}
+
+/// Goes on with that add. Answers whether it has claimed the first entry.
+fn claim_first_entry(section: &mut Section<'_>) -> bool
+    requires claimed { section.old.local.stand.phase ≡ Add (FindEntry 0 0 0 0) }
+    ensures same { IsSame section.old section.new }
+    ensures claimed { IsTrue result → section.new.local.stand.phase ≡ Add (StoreBack 0 (object 1 0 0)) }
+    ensures words { IsTrue result → section.new.local.stand.words ≡ section.old.local.stand.words }
+{
+    let place = Place::Entry { coll: 0, entry: 0 };
+    let blank = Word::Entry(State::Free {
+        incarnation: 0,
+        stamp: 0,
+    });
+    let _ = section.calm();
+    if section.epoch() < 2 || !section.take(Chosen::Go, Op::Load { place }).same(blank) {
+        return false;
+    }
+    let claim = Op::Exchange {
+        place,
+        expect: blank,
+        put: Word::Entry(State::Claimed { incarnation: 1 }),
+    };
+    section.take(Chosen::Go, claim).same(blank)
+}
+
 /// Starts the add of a region's first object. Answers whether it has claimed the first slot and the first entry.
 fn claim_first(section: &mut Section<'_>, words: &[u64]) -> bool
     requires idle { section.old.local.stand.phase ≡ Idle }
@@ -76,42 +127,7 @@ fn claim_first(section: &mut Section<'_>, words: &[u64]) -> bool
     ensures claimed { IsTrue result → section.new.local.stand.phase ≡ Add (StoreBack 0 (object 1 0 0)) }
     ensures words { IsTrue result → section.new.local.stand.words ≡ words.now }
 {
-    let slot = Place::Directory { coll: 0, slot: 0 };
-    let entry = Place::Entry { coll: 0, entry: 0 };
-    let free = Word::Directory(Dir::Free);
-    let blank = Word::Entry(State::Free {
-        incarnation: 0,
-        stamp: 0,
-    });
-    let add = Chosen::Add {
-        coll: 0,
-        from: 0,
-        words,
-    };
-    let _ = section.calm();
-    if section.epoch() < 2 || !section.take(add, Op::Load { place: slot }).same(free) {
-        return false;
-    }
-    let claim = Op::Exchange {
-        place: slot,
-        expect: free,
-        put: Word::Directory(Dir::Claimed),
-    };
-    if !section.take(Chosen::Go, claim).same(free) {
-        return false;
-    }
-    if !section
-        .take(Chosen::Go, Op::Load { place: entry })
-        .same(blank)
-    {
-        return false;
-    }
-    let claim = Op::Exchange {
-        place: entry,
-        expect: blank,
-        put: Word::Entry(State::Claimed { incarnation: 1 }),
-    };
-    section.take(Chosen::Go, claim).same(blank)
+    claim_first_slot(section, words) && claim_first_entry(section)
 }
 
 /// Goes on with that add to its end.
