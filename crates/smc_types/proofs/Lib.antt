@@ -1,6 +1,7 @@
 mod BackLaws
 mod BlankLaws
 mod CalendarLaws
+mod CellLaws
 mod ColumnLaws
 mod DayLaws
 mod KeyLaws

@@ -1,4 +1,5 @@
 pub mod Calendar
+pub mod Cells
 pub mod Columns
 pub mod Days
 pub mod Faults

@@ -8,6 +8,12 @@ use jiff::civil::Date;
 /// The last year that has four digits.
 pub const YEAR_MAX: u16 = 9999;
 
+/// The months of a year.
+const MONTH_MAX: u32 = 12;
+
+/// The days of the longest month.
+const MONTH_DAYS: u32 = 31;
+
 /// Bytes of the text of a day.
 const DAY_BYTES: usize = 10;
 
@@ -41,6 +47,21 @@ pub fn read_day(text: &[u8]) -> Option<i32>
         year: u16::from(century) * 100 + u16::from(year),
         month,
         day,
+    })
+}
+
+/// The number of a date in days from 1970-01-01. None where the calendar has no such date in the years 0000 to 9999.
+pub fn day_of_date(year: u32, month: u32, day: u32) -> Option<i32>
+    ensures some { IfSome result (λ number. number ≡ day_number (record { year = year; month = month; day = day })) }
+    ensures is { IsSome result ↔ IsDate (record { year = year; month = month; day = day }) }
+{
+    if year > u32::from(YEAR_MAX) || month > MONTH_MAX || day > MONTH_DAYS {
+        return None;
+    }
+    number_of_date(CivilDate {
+        year: year as u16,
+        month: month as u8,
+        day: day as u8,
     })
 }
 

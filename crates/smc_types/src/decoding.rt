@@ -1,9 +1,8 @@
 ghost use Rattle.std.specs.Prelude.{◌≡◌, false, length, IfOk};
 ghost use Rattle.smc_types.specs.Columns.{width_of, columns_width, is_reference};
-ghost use Rattle.smc_types.specs.Numbers.{moved_back, nearest};
 ghost use Rattle.smc_types.specs.Rows.{value_of, row_of};
 
-use crate::number::{AMOUNT_MAX, COUNT_MAX, DAY_MAX, DAY_MIN, RATE_MAX, moved_back, nearest};
+use crate::cells::{day_in, number_in};
 use crate::text::read_text;
 use crate::{FieldType, Row, Schema, Value};
 use smc_words::NoMemory;
@@ -36,22 +35,11 @@ fn read_value(alloc: Global, kind: FieldType, words: &[u64]) -> Result<Value, No
     ensures { IfOk result (λ value. value ≡ value_of kind words.now) }
 {
     match kind {
-        FieldType::Count => Ok(Value::Number(nearest(0, COUNT_MAX, i128::from(words[0])))),
-        FieldType::Amount => Ok(Value::Number(nearest(
-            -AMOUNT_MAX,
-            AMOUNT_MAX,
-            moved_back(words[0]),
-        ))),
-        FieldType::Rate => Ok(Value::Number(nearest(0, RATE_MAX, moved_back(words[0])))),
-        FieldType::Day => Ok(Value::Day(day_of_word(words[0]))),
+        FieldType::Count | FieldType::Amount | FieldType::Rate => {
+            Ok(Value::Number(number_in(kind, words[0])))
+        }
+        FieldType::Day => Ok(Value::Day(day_in(words[0]))),
         FieldType::Text(width) => Ok(Value::Text(read_text(alloc, words, width)?)),
         FieldType::RefTo(_) => unreachable!(),
     }
-}
-
-/// The day of this word.
-fn day_of_word(word: u64) -> i32
-    ensures { result ≡ nearest DAY_MIN DAY_MAX (moved_back word) }
-{
-    nearest(i128::from(DAY_MIN), i128::from(DAY_MAX), moved_back(word)) as i32
 }

@@ -78,7 +78,7 @@ pub fn is_text(bytes: &[u8]) -> bool
 }
 
 /// Whether the byte can stand in a text.
-fn is_text_byte(byte: u8) -> bool
+pub(crate) fn is_text_byte(byte: u8) -> bool
     ensures { result ≡ is_text_byte byte }
 {
     PADDING < byte && byte < BLANK_BYTE
