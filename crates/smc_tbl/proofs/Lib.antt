@@ -16,3 +16,4 @@ pub mod FitLaws
 pub mod RespellLaws
 pub mod RoundTrip
 pub mod LengthLaws
+pub mod WordLaws

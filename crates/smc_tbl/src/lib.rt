@@ -26,8 +26,12 @@ mod print;
 mod reader_tests;
 #[cfg(test)]
 mod tests;
+mod word_lines;
+mod words;
 
 pub use fault::TblFault;
 pub use grammar::read_row;
 pub use lines::{Lines, next_row};
 pub use print::print_row;
+pub use word_lines::next_words;
+pub use words::read_words;

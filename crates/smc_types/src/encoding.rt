@@ -1,4 +1,4 @@
-ghost use Rattle.std.specs.Prelude.{◌≡◌, ◌≤ℤ◌, ◌++◌, ◌∷◌, [], pos, neg_ℤ, unsigned_abs, length, All, IsTrue, IfOk, OnOk, IfErr, None};
+ghost use Rattle.std.specs.Prelude.{◌≡◌, ◌≤ℤ◌, ◌<ℤ◌, ◌++◌, ◌∷◌, [], pos, neg_ℤ, unsigned_abs, length, All, IsTrue, IfOk, OnOk, IfErr, None};
 ghost use Rattle.smc_types.specs.Columns.{width_of, columns_width, value_count, value_kinds, reference_count, references_last};
 ghost use Rattle.smc_types.specs.Faults.{range_fault, text_fault, value_fault, values_fault, row_fault, IsCause};
 ghost use Rattle.smc_types.specs.Records.{value_words, record_words, row_words};
@@ -151,7 +151,7 @@ fn push_moved(
     number: i128,
 ) -> Result<(), EncodeFault>
     requires low { neg_ℤ OFFSET ≤ℤ least }
-    requires high { greatest ≤ℤ OFFSET }
+    requires high { greatest <ℤ OFFSET }
     ensures done { OnOk result (words.new.items ≡ words.old.items ++ moved number ∷ []) }
     ensures good { OnOk result (range_fault least greatest number ≡ None) }
     ensures cause { IfErr result (IsCause (range_fault least greatest number)) }
@@ -159,7 +159,7 @@ fn push_moved(
     if !is_from(least, greatest, number) {
         return Err(EncodeFault::Range);
     }
-    push(words, moved(number))
+    push(words, moved(number as i64))
 }
 
 /// Puts the words of a text behind those that are there.

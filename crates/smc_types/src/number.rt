@@ -1,5 +1,5 @@
 //! The numbers that a column can hold, and the words in which they stand.
-ghost use Rattle.std.specs.Prelude.{◌≡◌, pos, ◌≤ℤ◌, ◌+ℤ◌};
+ghost use Rattle.std.specs.Prelude.{◌≡◌, neg_ℤ, ◌≤ℤ◌, ◌<ℤ◌, ◌+ℤ◌};
 ghost use Rattle.smc_types.specs.Numbers.{is_from, moved, moved_back, nearest};
 
 /// The greatest Count. The least is 0.
@@ -28,12 +28,12 @@ pub(crate) fn is_from(least: i128, greatest: i128, number: i128) -> bool
 }
 
 /// The word of an Amount, a Rate or a Day.
-pub(crate) fn moved(number: i128) -> u64
-    requires low { pos 0 ≤ℤ (number +ℤ OFFSET) }
-    requires high { number ≤ℤ OFFSET }
+pub fn moved(number: i64) -> u64
+    requires low { neg_ℤ OFFSET ≤ℤ number }
+    requires high { number <ℤ OFFSET }
     ensures { result ≡ moved number }
 {
-    (number + OFFSET) as u64
+    (number + OFFSET as i64) as u64
 }
 
 /// The number whose word this is.

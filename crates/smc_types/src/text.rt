@@ -84,8 +84,8 @@ pub(crate) fn is_text_byte(byte: u8) -> bool
     PADDING < byte && byte < BLANK_BYTE
 }
 
-/// Puts the words of a text behind those that are there.
-pub(crate) fn push_text(words: &mut Vec<u64>, text: &[u8], count: u32) -> Result<(), NoMemory>
+/// Puts so many words of a text behind those that are there.
+pub fn push_text(words: &mut Vec<u64>, text: &[u8], count: u32) -> Result<(), NoMemory>
     ensures { OnOk result (words.new.items ≡ words.old.items ++ text_words count text.now) }
 {
     for place in 0..count {
