@@ -1,5 +1,9 @@
-use Rattle.smc_region.specs.Callers.{IsSame}
+use Rattle.std.proofs.Common.{◌≡◌}
+use Rattle.smc_region.specs.Callers.{IsPassOf}
 use Rattle.smc_objects.proofs.tests.work.Given as goal
 
 abbrev pub invariant-loop : goal.invariant-loop
-invariant-loop l = record { home : IsSame l.fn.pass l.pass }
+invariant-loop l = record {
+  here : IsPassOf l.region l.pass;
+  number : l.pass.number ≡ l.fn.pass.number;
+}
