@@ -1,0 +1,3 @@
+mod BenchLaws
+mod BoxLaws
+mod TakingLaws
