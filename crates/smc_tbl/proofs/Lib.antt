@@ -16,3 +16,5 @@ pub mod FitLaws
 pub mod RespellLaws
 pub mod RoundTrip
 pub mod LengthLaws
+pub mod WordLaws
+pub mod WordNumbers

@@ -4,3 +4,4 @@ pub mod Printed
 pub mod Reader
 pub mod Reading
 pub mod TableText
+pub mod Words

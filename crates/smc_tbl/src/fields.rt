@@ -35,11 +35,11 @@ pub fn read_value(alloc: Global, kind: FieldType, field: &[u8]) -> Result<Value,
 }
 
 /// A number that was read, or its fault.
-fn of_number(number: Option<i128>) -> Result<Value, TblFault>
+fn of_number(number: Option<i64>) -> Result<Value, TblFault>
     ensures { result ≡ number_read number }
 {
     match number {
-        Some(number) => Ok(Value::Number(number)),
+        Some(number) => Ok(Value::Number(i128::from(number))),
         None => Err(TblFault::Number),
     }
 }

@@ -76,8 +76,8 @@ fn read_column<'a>(
     }
 }
 
-// Whether the line has one field for each of these columns.
-fn is_divided(line: &[u8], columns: &[Column]) -> bool
+/// Whether the line has one field for each of these columns.
+pub(crate) fn is_divided(line: &[u8], columns: &[Column]) -> bool
     ensures { IsTrue result ↔ IsDivided (value_kinds columns.now) line.now }
 {
     let mut rest = line;

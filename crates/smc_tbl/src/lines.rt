@@ -23,9 +23,9 @@ pub const MAX_LINES: u64 = 1 << 28;
 /// What stands between two calls of `next_row` on one source.
 #[derive(Drop)]
 pub struct Lines {
-    buffer: Buffer,
-    number: u64,
-    fault: Option<TblFault>,
+    pub(crate) buffer: Buffer,
+    pub(crate) number: u64,
+    pub(crate) fault: Option<TblFault>,
 }
 
 impl Model for Lines {
@@ -67,20 +67,20 @@ impl Lines {
 
 // How many bytes a line at the front of a text has without its end, and with it.
 #[derive(Clone, Copy)]
-struct FoundLine {
-    size: usize,
-    taken: usize,
+pub(crate) struct FoundLine {
+    pub(crate) size: usize,
+    pub(crate) taken: usize,
 }
 
 // What stands at the front of a text that has a line.
 #[derive(Clone, Copy)]
-enum Found {
+pub(crate) enum Found {
     Line(FoundLine),
     // More bytes than a line may have, and no end among them.
     TooLong,
 }
 
-fn without_return(line: &[u8]) -> &[u8]
+pub(crate) fn without_return(line: &[u8]) -> &[u8]
     ensures { result.now ≡ strip_carriage_return line.now }
 {
     match line {
@@ -90,7 +90,10 @@ fn without_return(line: &[u8]) -> &[u8]
 }
 
 // Reads on until the buffer has a whole line, or more than one may have; `None` at the end of the input.
-fn find_line<S: Source>(source: &mut S, buffer: &mut Buffer) -> Result<Option<Found>, Failed>
+pub(crate) fn find_line<S: Source>(
+    source: &mut S,
+    buffer: &mut Buffer,
+) -> Result<Option<Found>, Failed>
     ensures kept { Keeps (prepend_known buffer.old (S.left source.old)) (prepend_known buffer.new (S.left source.new)) }
     ensures within { IfOk result (λ found. IfSome found (λ front. IsKept front buffer.new)) }
     ensures found { IfOk result (λ found. IfSome (prepend_known buffer.new (S.left source.new)) (IsFound found)) }

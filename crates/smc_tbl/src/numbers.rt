@@ -47,11 +47,11 @@ fn read_digits(digits: &[u8], most: usize) -> Option<u64>
 }
 
 /// The count that a field spells.
-pub fn read_count(text: &[u8]) -> Option<i128>
+pub fn read_count(text: &[u8]) -> Option<i64>
     ensures some { IfSome result (SpellsCount text.now) }
     ensures none { IfNone result ((count : ℤ) → ¬ SpellsCount text.now count) }
 {
-    Some(i128::from(read_digits(text, COUNT_DIGITS)?))
+    Some(read_digits(text, COUNT_DIGITS)? as i64)
 }
 
 /// The hundredths that one or two decimals spell.
@@ -72,6 +72,7 @@ fn read_decimals(decimals: &[u8]) -> Option<u64>
 fn read_hundredths(text: &[u8], most: usize) -> Option<u64>
     requires { most ≤ AMOUNT_DIGITS }
     ensures some { IfSome result (SpellsHundredths most text.now) }
+    ensures small { IfSome result (λ value. value < 2 ^ 50) }
     ensures none { IfNone result ((value : ℕ) → ¬ SpellsHundredths most text.now value) }
 {
     let Some((whole, decimals)) = split_at_byte(text, POINT) else {
@@ -94,27 +95,28 @@ fn without_minus(text: &[u8]) -> Option<&[u8]>
 }
 
 /// The number as far below 0.
-fn below_zero(units: u64) -> i128
+fn below_zero(units: u64) -> i64
+    requires { units < 2 ^ 50 }
     ensures { result ≡ neg_ℤ (pos units) }
 {
-    -i128::from(units)
+    -(units as i64)
 }
 
 /// The hundredths of the amount that a field spells.
-pub fn read_amount(text: &[u8]) -> Option<i128>
+pub fn read_amount(text: &[u8]) -> Option<i64>
     ensures some { IfSome result (SpellsAmount text.now) }
     ensures none { IfNone result ((amount : ℤ) → ¬ SpellsAmount text.now amount) }
 {
     match without_minus(text) {
         Some(number) => Some(below_zero(read_hundredths(number, AMOUNT_DIGITS)?)),
-        None => Some(i128::from(read_hundredths(text, AMOUNT_DIGITS)?)),
+        None => Some(read_hundredths(text, AMOUNT_DIGITS)? as i64),
     }
 }
 
 /// The hundredths of the rate that a field spells.
-pub fn read_rate(text: &[u8]) -> Option<i128>
+pub fn read_rate(text: &[u8]) -> Option<i64>
     ensures some { IfSome result (SpellsRate text.now) }
     ensures none { IfNone result ((rate : ℤ) → ¬ SpellsRate text.now rate) }
 {
-    Some(i128::from(read_hundredths(text, RATE_DIGITS)?))
+    Some(read_hundredths(text, RATE_DIGITS)? as i64)
 }

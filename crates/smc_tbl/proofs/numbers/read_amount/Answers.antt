@@ -1,5 +1,5 @@
 use Rattle.std.proofs.lemmas.Int.{to_z-of_z}
-use mir.Syntax.{w128}
+use mir.Syntax.{w64}
 use Rattle.smc_tbl.proofs.NumberLaws.{minus-not, plain-not, spells-below}
 use Rattle.smc_tbl.proofs.numbers.read_amount.Goals as goal
 
@@ -13,6 +13,6 @@ returns-in_err-read_hundredths-in-None-clause-none c =
 
 pub returns-in_ok-read_hundredths-in-Some-clause-some : goal.returns-in_ok-read_hundredths-in-Some-clause-some
 returns-in_ok-read_hundredths-in-Some-clause-some c =
-    rw (to_z-of_z w128 c.below_zero.result (record { sfits = c.below_zero.type_inv }))
+    rw (to_z-of_z w64 c.below_zero.result (record { sfits = c.below_zero.type_inv }))
     (spells-below c.args.text.now c.in-Some.number.now c.in_ok-read_hundredths-in-Some.field-0 c.below_zero.result c.in-Some.ensures.some
     c.in_ok-read_hundredths-in-Some.ensures.some c.below_zero.ensures)
