@@ -17,3 +17,4 @@ pub mod RespellLaws
 pub mod RoundTrip
 pub mod LengthLaws
 pub mod WordLaws
+pub mod WordNumbers

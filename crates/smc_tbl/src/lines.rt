@@ -90,7 +90,10 @@ pub(crate) fn without_return(line: &[u8]) -> &[u8]
 }
 
 // Reads on until the buffer has a whole line, or more than one may have; `None` at the end of the input.
-pub(crate) fn find_line<S: Source>(source: &mut S, buffer: &mut Buffer) -> Result<Option<Found>, Failed>
+pub(crate) fn find_line<S: Source>(
+    source: &mut S,
+    buffer: &mut Buffer,
+) -> Result<Option<Found>, Failed>
     ensures kept { Keeps (prepend_known buffer.old (S.left source.old)) (prepend_known buffer.new (S.left source.new)) }
     ensures within { IfOk result (λ found. IfSome found (λ front. IsKept front buffer.new)) }
     ensures found { IfOk result (λ found. IfSome (prepend_known buffer.new (S.left source.new)) (IsFound found)) }
