@@ -1,16 +1,21 @@
--- What the calls of a region leave of a pass, as what they tell.
-use Rattle.std.proofs.Common.{◌≡◌, ℕ, ◌+◌, Bool, Some, None, [], ◌∷◌, ◌++◌, length, refl, sym, ◌∙◌, append-nil, arith}
+-- What the calls of a region leave of a pass, as what they do.
+use Rattle.std.proofs.Common.{◌≡◌, ℕ, ◌+◌, Bool, Option, Some, None, List, [], ◌∷◌, ◌++◌, length, refl, sym, subst, ap, ◌∙◌, append-nil, arith}
+use Rattle.std.specs.Prelude.{Contains}
 use Rattle.std.proofs.lemmas.Grind.{common_steps}
 use Rattle.std.proofs.lemmas.List.{length-append}
 use Rattle.smc_words.specs.declared.number.Number.{Number}
 use Rattle.smc_model.specs.declared.event.Event.{Event}
 use Rattle.smc_core.specs.declared.done.Done.{Done}
+use Rattle.smc_core.specs.declared.local.Held.{Held}
 use Rattle.smc_core.specs.declared.local.Local.{Local}
-use Rattle.smc_region.specs.Callers.{entered, left, answered_by}
-use Rattle.smc_region.specs.Looks.{found, missed}
+use Rattle.smc_core.specs.declared.phase.Phase.TheVariants.{Idle}
+use Rattle.smc_region.specs.Callers.{Caller, IsSame, entered, left, answered_by}
+use Rattle.smc_region.specs.Looks.{LooksUp, found, missed}
 use Rattle.smc_region.specs.Notes.{Noted, with_learnt, with_note}
 use Rattle.smc_trace.specs.Named.{advances, enters, leaves, learns, looks, notes}
-use Rattle.smc_trace.specs.Trace.{Tells}
+use Rattle.smc_trace.specs.Trace.{CallEnd, Tells}
+use Rattle.smc_does.specs.Does.{Does, Stays}
+use Rattle.smc_does.proofs.Holdings.{contains-later}
 
 -- one event and one answer more
 pub tells-one : (old new : Local) (e : Event) (d : Done) → new.log ≡ old.log ++ e ∷ [] → new.answers ≡ old.answers ++ record { length = length (old.log ++ e ∷ []); done = d } ∷ []
@@ -24,23 +29,51 @@ pub tells-none : (old new : Local) (d : Done) → new.log ≡ old.log → new.an
     → Tells old new (record { event = None; done = d } ∷ [])
 tells-none old new d log answers = record { log = log ∙ sym (append-nil old.log); answers = grind (arith, common_steps, answers) }
 
-pub entered-tells : (l : Local) (epoch : ℕ) (calm : Bool) → Tells l (entered l epoch calm) (enters epoch)
-entered-tells l epoch calm = tells-one l (entered l epoch calm) _ _ refl refl
+-- ---- from what is left of a pass
 
-pub left-tells : (l : Local) → Tells l (left l) leaves
-left-tells l = tells-one l (left l) _ _ refl refl
+pub does-by : (old new : Caller) (l : Local) (calls : List CallEnd) → IsSame old new → new.local ≡ l → Tells old.local l calls → l.stand.round ≡ old.local.stand.round → Does old new calls
+does-by old new l calls same is tells round = record {
+  same = same;
+  tells = subst (λ (k : Local). Tells old.local k calls) (sym is) tells;
+  free = λ none. ap (λ (k : Local). k.stand.round) is ∙ (round ∙ none);
+}
 
-pub answered-tells : (l : Local) (steps : ℕ) (answer : Done) → Tells l (answered_by l steps answer) (advances answer)
-answered-tells l steps answer = tells-none l (answered_by l steps answer) answer refl refl
+pub stays-by : (old new : Caller) (l : Local) → new.local ≡ l → l.stand.section ≡ old.local.stand.section → l.stand.phase ≡ Idle
+    → ((x : Held) → Contains old.local.stand.held x → Contains l.stand.held x) → Stays old new
+stays-by old new l is section idle held = record {
+  section = ap (λ (k : Local). k.stand.section) is ∙ section;
+  idle = ap (λ (k : Local). k.stand.phase) is ∙ idle;
+  held = λ x has. subst (λ (k : Local). Contains k.stand.held x) (sym is) (held x has);
+}
 
-pub missed-tells : (l : Local) (number : Number) (steps : ℕ) → Tells l (missed l number steps) (looks number None)
-missed-tells l number steps = tells-one l (missed l number steps) _ _ refl refl
+-- ---- the calls of a region
 
-pub found-tells : (l : Local) (number : Number) (slot steps : ℕ) → Tells l (found l number slot steps) (looks number (Some slot))
-found-tells l number slot steps = tells-one l (found l number slot steps) _ _ refl refl
+pub enter-does : (old new : Caller) (epoch : ℕ) (calm : Bool) → IsSame old new → new.local ≡ entered old.local epoch calm → Does old new (enters epoch)
+enter-does old new epoch calm same is = does-by old new (entered old.local epoch calm) (enters epoch) same is (tells-one old.local (entered old.local epoch calm) _ _ refl refl) refl
 
-pub noted-tells : (l : Local) → Tells l (with_note l) (notes l.stand.noted)
-noted-tells l = tells-none l (with_note l) _ refl refl
+pub leave-does : (old new : Caller) → IsSame old new → new.local ≡ left old.local → Does old new leaves
+leave-does old new same is = does-by old new (left old.local) leaves same is (tells-one old.local (left old.local) _ _ refl refl) refl
 
-pub learnt-tells : (l : Local) (note : Noted) → Tells l (with_learnt l note) (learns note.pass (length note.log))
-learnt-tells l note = tells-one l (with_learnt l note) _ _ refl refl
+-- a call that adds no event, as an advance
+pub answer-does : (old new : Caller) (steps : ℕ) (answer : Done) → IsSame old new → new.local ≡ answered_by old.local steps answer → Does old new (advances answer)
+answer-does old new steps answer same is =
+    does-by old new (answered_by old.local steps answer) (advances answer) same is (tells-none old.local (answered_by old.local steps answer) answer refl refl) refl
+
+pub note-does : (old new : Caller) → IsSame old new → new.local ≡ with_note old.local → Does old new (notes old.local.stand.noted)
+note-does old new same is = does-by old new (with_note old.local) (notes old.local.stand.noted) same is (tells-none old.local (with_note old.local) _ refl refl) refl
+
+pub learn-does : (old new : Caller) (note : Noted) → IsSame old new → new.local ≡ with_learnt old.local note → Does old new (learns note.pass (length note.log))
+learn-does old new note same is =
+    does-by old new (with_learnt old.local note) (learns note.pass (length note.log)) same is (tells-one old.local (with_learnt old.local note) _ _ refl refl) refl
+
+pub look-does : (old new : Caller) (number : Number) (slot : Option ℕ) → IsSame old new → LooksUp slot number old.local new.local → Does old new (looks number slot)
+look-does old new number None same is =
+    does-by old new (missed old.local number new.local.steps) (looks number None) same is (tells-one old.local (missed old.local number new.local.steps) _ _ refl refl) refl
+look-does old new number (Some slot) same is =
+    does-by old new (found old.local number slot new.local.steps) (looks number (Some slot)) same is (tells-one old.local (found old.local number slot new.local.steps) _ _ refl refl) refl
+
+-- a look-up lets nothing go
+pub look-stays : (old new : Caller) (number : Number) (slot : Option ℕ) → LooksUp slot number old.local new.local → Stays old new
+look-stays old new number None is = stays-by old new (missed old.local number new.local.steps) is refl refl (λ x has. has)
+look-stays old new number (Some slot) is =
+    stays-by old new (found old.local number slot new.local.steps) is refl refl (λ x has. contains-later old.local.stand.held (record { number = number; slot = slot }) x has)

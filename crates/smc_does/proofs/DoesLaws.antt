@@ -1,5 +1,5 @@
 -- What is done after something else.
-use Rattle.std.proofs.Common.{ℕ, List, [], ◌++◌, refl, ◌∙◌}
+use Rattle.std.proofs.Common.{◌≡◌, ℕ, List, [], ◌++◌, refl, subst, ◌∙◌}
 use Rattle.atomic_table.specs.Seated.{TableId}
 use Rattle.smc_shape.specs.Layout.{Layout}
 use Rattle.smc_core.specs.Local.{fresh}

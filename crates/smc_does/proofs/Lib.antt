@@ -1,2 +1,4 @@
 pub mod DoesLaws
 pub mod Bridges
+pub mod HeldLaws
+pub mod Holdings

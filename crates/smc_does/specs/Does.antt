@@ -1,7 +1,8 @@
 -- What a call of a pass does: the calls of the machine that it makes, and that it leaves the pass the same one.
 use Rattle.std.specs.Prelude.{◌≡◌, None, List, Contains}
-use Rattle.smc_core.specs.declared.local.Held.{Held}
+use Rattle.smc_core.specs.declared.local.Held as core
 use Rattle.smc_core.specs.declared.phase.Phase.TheVariants.{Idle}
+use Rattle.smc_region.specs.declared.held.Held.{Held}
 use Rattle.smc_region.specs.Callers.{Caller, IsSame}
 use Rattle.smc_trace.specs.Trace.{CallEnd, Tells}
 
@@ -23,4 +24,12 @@ DoesSome old new Fact = (calls : List CallEnd) × Does old new calls × Fact cal
 pub record Stays (old new : Caller) : Type 0 where
   pub section : new.local.stand.section ≡ old.local.stand.section
   pub idle : new.local.stand.phase ≡ Idle
-  pub held : (x : Held) → Contains old.local.stand.held x → Contains new.local.stand.held x
+  pub held : (x : core.Held) → Contains old.local.stand.held x → Contains new.local.stand.held x
+
+-- an object that was found, as what the section holds
+abbrev pub pair_of : Held → core.Held
+pair_of held = record { number = held.number; slot = held.place }
+
+-- the section holds the object, in the slot in which it was found
+abbrev pub IsHeld : Caller → Held → Type 0
+IsHeld pass held = Contains pass.local.stand.held (pair_of held)

@@ -1,5 +1,5 @@
 -- What the epoch rule says of an epoch that a step was shown.
-use Rattle.std.proofs.Common.{◌≡◌, ◌≢◌, ℕ, ◌+◌, ◌<◌, ◌≤◌, refl, sym, ap, ◌∙◌, subst, arith}
+use Rattle.std.proofs.Common.{◌≡◌, ◌≢◌, ℕ, ◌+◌, ◌<◌, ◌≤◌, Some, [], refl, ap, ◌∙◌, subst, arith}
 use Rattle.std.specs.Prelude.{slice_index}
 use Rattle.std.proofs.lemmas.Bool.Decides.{nat_tests}
 use Rattle.std.proofs.lemmas.Option.{slice_get_within}
@@ -8,6 +8,7 @@ use Rattle.atomic_table.specs.Table.{Me}
 use Rattle.smc_shape.specs.Layout.{Layout}
 use Rattle.smc_shape.specs.Places.{at}
 use Rattle.smc_shape.specs.declared.place.Place.TheVariants as place
+use Rattle.smc_core.specs.declared.call.Choice.{Choice}
 use Rattle.smc_core.specs.declared.local.Local.{Local}
 use Rattle.smc_core.specs.declared.local.Stand.{Stand}
 use Rattle.smc_core.specs.declared.op.Op.{Op}
@@ -24,14 +25,13 @@ use Rattle.smc_rules.specs.Reads.{epoch_of_region}
 use Rattle.smc_rules.specs.State.{Backed}
 use Rattle.smc_inv_epoch.specs.Epochs.{is_first}
 use Rattle.smc_inv_epoch.proofs.EveryList.{rule-then}
-use Rattle.smc_region.specs.declared.advance.Advance.TheVariants.{Advanced, NotYet, Overtaken}
-use Rattle.smc_region.specs.Advances.{Advances, SawNumber, advancing}
+use Rattle.smc_region.specs.Advances.{SawNumber, advancing}
 use Rattle.smc_region.specs.Callers.{Caller, IsSeatOf, caller_of}
-use Rattle.smc_region.specs.Reached.{From, Saw}
+use Rattle.smc_region.specs.Reached.{From, Saw, Took}
 use Rattle.smc_region.proofs.Closes.{caller_seat}
 use Rattle.smc_region.proofs.StepLaws.{was}
 use Rattle.smc_region.specs.declared.law.View.{View}
-use Rattle.smc_region.specs.Views.{one}
+use Rattle.smc_region.specs.Views.{one, sole, view_after, view_op}
 
 -- the epoch rule holds in the state that a step tells of
 behind : (view : View) (f : From view) → Backed view.shape is_first (EpochRule view.shape) f.machine.row f.machine.locals
@@ -76,43 +76,30 @@ saw_later shape pass l from e v w ready s ne =
 pub caller_saw : (number : ℕ) (table : TableId) (me : Me (Unit {0}) View) (v : Caller) (op : Op) (w : Word) → caller_of number table me ≡ v → IsSeatOf number me → Saw me.0 op w → Saw (one v.shape v.number v.local) op w
 caller_saw number table me v op w is seat saw = subst (λ (m : Me (Unit {0}) View). Saw m.0 op w) (caller_seat number table me v is seat) saw
 
--- the first load of an advance
-pub first_load : (old : Caller) (w : Word) (from : ℕ) → from ≡ plain_of w → Saw (one old.shape old.number old.local) (Load place.Epoch) w → SawNumber old place.Epoch from
-first_load old w from is saw = record { before = old.local; op = Load place.Epoch; seen = w; here = refl; saw = saw; is = sym is }
+-- the pass of a seat took a step
+pub took_at : (shape : Layout) (pass : ℕ) (l : Local) (me me' : Me (Unit {0}) View) (choice : Choice) (op : Op) (w : Word) → me ≡ (one shape pass l, [])
+    → view_op me.0 choice ≡ Some op → me' ≡ (view_after choice 0 w me.0, me.1) → Saw me.0 op w → Took shape pass l op w (sole me'.0.shape me'.0.locals)
+took_at shape pass l me me' choice op w same offered after saw = record {
+  choice = choice;
+  offered = subst (λ (m : Me (Unit {0}) View). view_op m.0 choice ≡ Some op) same offered;
+  saw = subst (λ (m : Me (Unit {0}) View). Saw m.0 op w) same saw;
+  leads = ap (λ (m : Me (Unit {0}) View). sole m.0.shape m.0.locals) after ∙ ap (λ (m : Me (Unit {0}) View). sole m.0.shape (view_after choice 0 w m.0).locals) same;
+}
 
 -- behind the last section word an advance is ready
 ready-next : (shape : Layout) (epoch other : ℕ) → shape.passes ≤ other → advance_next shape epoch other ≡ phase.Ready epoch
 ready-next shape epoch other le = grind (arith, nat_tests)
 
-module _ (old : Caller) (epoch other : ℕ) (w : Word) (first : SawNumber old place.Epoch epoch) (low : epoch < LAST_EPOCH)
-    (saw : Saw (one old.shape old.number (advancing old.shape old.local epoch other)) (Exchange place.Epoch (word.Plain epoch) (word.Plain (epoch + 1))) w) where
-  at_end : SawNumber old place.Epoch (plain_of w)
-  at_end = record { before = advancing old.shape old.local epoch other; op = Exchange place.Epoch (word.Plain epoch) (word.Plain (epoch + 1)); seen = w; here = refl; saw = saw; is = refl }
+-- where it is not the first to move on, it sees a later epoch
+pub later_seen : (old : Caller) (epoch other seen : ℕ) (w : Word)
+    → Saw (one old.shape old.number (advancing old.shape old.local epoch other)) (Exchange place.Epoch (word.Plain epoch) (word.Plain (epoch + 1))) w
+    → old.shape.passes ≤ other → seen ≡ plain_of w → seen ≢ epoch → epoch < seen
+later_seen old epoch other seen w saw last is ne =
+    let later = saw_later old.shape old.number (advancing old.shape old.local epoch other) epoch (word.Plain epoch) (word.Plain (epoch + 1)) w (ready-next old.shape epoch other last) saw (λ e. ne (is ∙ e)) in
+    omega (arith, later, is)
 
-  pub moved_on : (seen : ℕ) → seen ≡ plain_of w → seen ≡ epoch → Advances old (Advanced (epoch + 1))
-  moved_on seen is same = record { from = epoch; first = first; cause = ((λ e. omega arith), refl, subst (λ (n : ℕ). SawNumber old place.Epoch n) (sym is ∙ same) at_end) }
-
-  pub later_seen : (seen : ℕ) → old.shape.passes ≤ other → seen ≡ plain_of w → seen ≢ epoch → epoch < seen
-  later_seen seen last is ne =
-      let later = saw_later old.shape old.number (advancing old.shape old.local epoch other) epoch (word.Plain epoch) (word.Plain (epoch + 1)) w (ready-next old.shape epoch other last) saw (λ e. ne (is ∙ e)) in
-      omega (arith, later, is)
-
-  pub overtaken : (seen : ℕ) → old.shape.passes ≤ other → seen ≡ plain_of w → seen ≢ epoch → Advances old (Overtaken seen)
-  overtaken seen last is ne =
-      let later = saw_later old.shape old.number (advancing old.shape old.local epoch other) epoch (word.Plain epoch) (word.Plain (epoch + 1)) w (ready-next old.shape epoch other last) saw (λ e. ne (is ∙ e)) in
-      record { from = epoch; first = first; cause = ((λ e. omega arith), omega (arith, later, is), subst (λ (n : ℕ). SawNumber old place.Epoch n) (sym is) at_end) }
-
--- an advance that sees an older section ends for it
-pub not_yet : (old : Caller) (epoch other : ℕ) (w : Word) → SawNumber old place.Epoch epoch → epoch < LAST_EPOCH
-    → Saw (one old.shape old.number (advancing old.shape old.local epoch other)) (Load (place.Section other)) w
-    → (seen : ℕ) → seen ≡ plain_of w → seen ≢ 0 → seen ≢ epoch → Advances old (NotYet other seen)
-not_yet old epoch other w first low saw seen is some apart = record {
-  from = epoch;
-  first = first;
-  cause = (
-    (λ e. omega (arith, low, e)),
-    some,
-    apart,
-    record { before = advancing old.shape old.local epoch other; op = Load (place.Section other); seen = w; here = refl; saw = saw; is = sym is },
-  );
-}
+-- the exchange of an advance, its last step
+pub at_end : (shape : Layout) (pass : ℕ) (before new : Local) (epoch : ℕ) (w : Word) → Took shape pass before (Exchange place.Epoch (word.Plain epoch) (word.Plain (epoch + 1))) w new
+    → (seen : ℕ) → plain_of w ≡ seen → SawNumber shape pass place.Epoch seen new
+at_end shape pass before new epoch w took seen is =
+    record { before = before; op = Exchange place.Epoch (word.Plain epoch) (word.Plain (epoch + 1)); seen = w; here = refl; took = took; last = ap (λ (l : Local). l.steps) took.leads; is = is }

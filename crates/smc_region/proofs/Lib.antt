@@ -14,3 +14,4 @@ pub mod ActLaws
 pub mod RangeLaws
 pub mod CursorLaws
 pub mod NamedLaws
+pub mod OwnerLaws

@@ -7,6 +7,7 @@ use Rattle.smc_core.specs.declared.done.Done.{Done}
 use Rattle.smc_core.specs.declared.done.Done.TheVariants as done
 use Rattle.smc_core.specs.declared.local.Local.{Local}
 use Rattle.smc_core.specs.declared.op.Op.{Op}
+use Rattle.smc_core.specs.declared.op.Op.TheVariants.{Load}
 use Rattle.smc_core.specs.declared.section.TheConstants.{LAST_EPOCH}
 use Rattle.smc_core.specs.declared.word.Word.{Word}
 use Rattle.smc_core.specs.Change.{advance_next}
@@ -15,8 +16,7 @@ use Rattle.smc_core.specs.Words.{plain_of}
 use Rattle.smc_region.specs.declared.advance.Advance.{Advance}
 use Rattle.smc_region.specs.declared.advance.Advance.TheVariants.{Advanced, NotYet, Overtaken, Spent}
 use Rattle.smc_region.specs.Callers.{Caller}
-use Rattle.smc_region.specs.Reached.{Saw}
-use Rattle.smc_region.specs.Views.{one}
+use Rattle.smc_region.specs.Reached.{Took}
 
 -- the answer that the pass keeps
 abbrev pub done_of : Advance → Done
@@ -25,27 +25,32 @@ done_of (NotYet pass seen) = done.NotYet pass seen
 done_of (Overtaken seen) = done.Overtaken seen
 done_of Spent = done.Spent
 
--- at some step the pass saw this number at that place
-pub record SawNumber (pass : Caller) (there : Place) (number : ℕ) : Type 0 where
+-- at the step of an advance that left the pass so, it saw this number at that place
+pub record SawNumber (shape : Layout) (pass : ℕ) (there : Place) (number : ℕ) (new : Local) : Type 0 where
   pub before : Local
   pub op : Op
   pub seen : Word
   pub here : place_of op ≡ there
-  pub saw : Saw (one pass.shape pass.number before) op seen
+  pub took : Took shape pass before op seen new
+  pub last : new.steps ≡ before.steps + 1
   pub is : plain_of seen ≡ number
 
--- why an advance that meant to move on from this epoch ended so
-abbrev pub IsCause : Caller → ℕ → Advance → Type 0
-IsCause pass from (Advanced epoch) = (from ≢ LAST_EPOCH) × (epoch ≡ from + 1) × SawNumber pass place.Epoch from
-IsCause pass from (NotYet other seen) = (from ≢ LAST_EPOCH) × (seen ≢ 0) × (seen ≢ from) × SawNumber pass (place.Section other) seen
-IsCause pass from (Overtaken seen) = (from ≢ LAST_EPOCH) × (from < seen) × SawNumber pass place.Epoch seen
-IsCause pass from Spent = from ≡ LAST_EPOCH
+-- why an advance that meant to move on from this epoch, and stood so behind its first step, ended so: at its last step, which is the
+-- first one where no epoch is left
+abbrev pub IsCause : Layout → ℕ → ℕ → Local → Local → Advance → Type 0
+IsCause shape pass from second new (Advanced epoch) = (from ≢ LAST_EPOCH) × (epoch ≡ from + 1) × SawNumber shape pass place.Epoch from new
+IsCause shape pass from second new (NotYet other seen) = (from ≢ LAST_EPOCH) × (seen ≢ 0) × (seen ≢ from) × SawNumber shape pass (place.Section other) seen new
+IsCause shape pass from second new (Overtaken seen) = (from ≢ LAST_EPOCH) × (from < seen) × SawNumber shape pass place.Epoch seen new
+IsCause shape pass from second new Spent = (from ≡ LAST_EPOCH) × (new ≡ second)
 
--- the advance loaded some epoch first, and ended so for its cause
-pub record Advances (old : Caller) (answer : Advance) : Type 0 where
+-- the advance loaded some epoch at its first step, and ended so for its cause
+pub record Advances (old new : Caller) (answer : Advance) : Type 0 where
   pub from : ℕ
-  pub first : SawNumber old place.Epoch from
-  pub cause : IsCause old from answer
+  pub seen : Word
+  pub second : Local
+  pub first : Took old.shape old.number old.local (Load place.Epoch) seen second
+  pub is : plain_of seen ≡ from
+  pub cause : IsCause old.shape old.number from second new.local answer
 
 -- an advance that has passed the section words below this one
 abbrev pub advancing : Layout → Local → ℕ → ℕ → Local

@@ -16,8 +16,7 @@ use Rattle.smc_core.specs.Row.{place_of, has_place}
 use Rattle.smc_core.specs.Words.{has_object, state_of}
 use Rattle.smc_region.specs.declared.held.Held.{Held}
 use Rattle.smc_region.specs.Callers.{Caller}
-use Rattle.smc_region.specs.Reached.{Saw}
-use Rattle.smc_region.specs.Views.{one}
+use Rattle.smc_region.specs.Reached.{Took}
 
 -- a look-up that finds no object, when the pass has taken so many steps in all
 abbrev pub missed : Local → Number → ℕ → Local
@@ -59,7 +58,7 @@ pub record SawPresent (pass : Caller) (number : Number) (present : Bool) : Type 
   pub op : Op
   pub seen : Word
   pub here : place_of op ≡ place.Entry number.coll number.entry
-  pub saw : Saw (one pass.shape pass.number before) op seen
+  pub took : Took pass.shape pass.number before op seen pass.local
   pub last : pass.local.steps ≡ before.steps + 1
   pub is : has_object number.incarnation (state_of seen) ≡ present
 

@@ -3,16 +3,19 @@ use Rattle.std.specs.Prelude.{◌≡◌, ◌⊎◌, ℕ, Some, List, slice_get}
 use Rattle.std.specs.List.{AllByRecursion}
 use Rattle.smc_shape.specs.Layout.{Layout, IsShape}
 use Rattle.smc_shape.specs.declared.place.Place.TheVariants as place
+use Rattle.smc_core.specs.declared.call.Choice.{Choice}
 use Rattle.smc_core.specs.declared.local.Local.{Local}
 use Rattle.smc_core.specs.declared.local.Opening.{Opening}
 use Rattle.smc_core.specs.declared.op.Op.{Op}
 use Rattle.smc_core.specs.declared.op.Op.TheVariants.{Load, Store, Exchange, MarkGone}
 use Rattle.smc_core.specs.declared.word.Word.{Word}
-use Rattle.smc_core.specs.Machine.{Machine}
+use Rattle.smc_core.specs.Local.{after}
+use Rattle.smc_core.specs.Machine.{Machine, local_offer}
 use Rattle.smc_core.specs.Row.{number_at, place_of, row_shows}
 use Rattle.smc_model.specs.World.{World}
 use Rattle.smc_rules.specs.History.{History}
 use Rattle.smc_region.specs.declared.law.View.{View}
+use Rattle.smc_region.specs.Views.{one, op_of}
 
 -- the machine has a history, from a start and a first world
 unfoldable pub HasHistory : Layout → Opening → Machine → Type 0
@@ -54,3 +57,11 @@ answered_number (MarkGone coll entry) number = number
 pub record Showed (view : View) (op : Op) (number : ℕ) : Type 0 where
   pub from : From view
   pub is : number ≡ answered_number op (number_at view.shape from.machine.row (place_of op))
+
+-- a step that the pass took when it stood so: for some choice it offered this operation, the operation showed this word, and the
+-- pass stood so next. Behind how many own steps it was, the local state before it tells
+pub record Took (shape : Layout) (pass : ℕ) (before : Local) (op : Op) (seen : Word) (next : Local) : Type 0 where
+  pub choice : Choice
+  pub offered : op_of (local_offer shape pass before choice) ≡ Some op
+  pub saw : Saw (one shape pass before) op seen
+  pub leads : next ≡ after shape pass before choice 0 seen

@@ -31,7 +31,7 @@ impl Pass {
         ensures answered { self.new.local ≡ answered_by self.old.local self.new.local.steps (done_of result) }
         ensures few { self.new.local.steps ≤ self.old.local.steps + self.old.shape.passes + 2 }
         ensures low { IsLow result }
-        ensures cause { Advances self.old result }
+        ensures cause { Advances self.old self.new result }
         ensures rises { Rises self.old.local result }
     {
         let load = Op::Load {

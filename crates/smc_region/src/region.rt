@@ -95,6 +95,7 @@ pub(crate) fn step(region: &Region, seat: &mut Seat<(), View>, chosen: Chosen<'_
     requires offers { view_op seat.old.me.0 (seat_choice seat.old.me.0 chosen) ≡ Some op }
     ensures same { (seat.new.table_id ≡ seat.old.table_id) × (seat.new.id ≡ seat.old.id) }
     ensures after { seat.new.me ≡ (view_after (seat_choice seat.old.me.0 chosen.entry) 0 result seat.old.me.0, seat.old.me.1) }
+    ensures offered { view_op seat.old.me.0 (seat_choice seat.old.me.0 chosen.entry) ≡ Some op }
     ensures saw { Saw seat.old.me.0 op result }
     ensures stands { From seat.new.me.0 }
 {

@@ -11,7 +11,7 @@ ghost use Rattle.smc_core.specs.Row.{OpFits};
 ghost use Rattle.smc_core.specs.Section.{epoch_of, is_calm};
 ghost use Rattle.smc_region.specs.Callers.{IsPassOf, IsSame, left};
 ghost use Rattle.smc_region.specs.Choices.{choice_of};
-ghost use Rattle.smc_region.specs.Reached.{Saw};
+ghost use Rattle.smc_region.specs.Reached.{Saw, Took};
 ghost use Rattle.smc_region.specs.Sections.{IsWithin, MayBegin, scans_with, cursors_by};
 ghost use Rattle.smc_region.specs.Views.{one, op_of};
 
@@ -109,6 +109,7 @@ impl<'r> Section<'r> {
         requires scans { MayBegin (length self.old.local.stand.scans) chosen }
         ensures same { IsSame self.old self.new }
         ensures after { self.new.local ≡ after self.old.shape self.old.number self.old.local (choice_of self.old.local.stand.scans chosen.entry) 0 result }
+        ensures took { Took self.old.shape self.old.number self.old.local op result self.new.local }
         ensures saw { Saw (one self.old.shape self.old.number self.old.local) op result }
         ensures fits { OpFits self.old.shape op }
     {

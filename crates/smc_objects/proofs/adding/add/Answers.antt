@@ -1,39 +1,12 @@
-use Rattle.std.proofs.Common.{rules, arith}
-use Rattle.std.proofs.lemmas.Grind.{common_steps}
-use Rattle.smc_shape.specs.declared.place.Place.TheVariants as place
-use Rattle.smc_shape.specs.Layout.{slots_of, entries_of}
-use Rattle.smc_core.specs.Section.{epoch_of}
-use Rattle.smc_objects.proofs.RoundLaws.{first-within, taken-within}
+use Rattle.std.proofs.Common.{rules}
+use Rattle.smc_objects.proofs.ToldLaws.{add-does, add-stays, add-scans}
 use Rattle.smc_objects.proofs.adding.add.Goals as goal
 
-pub returns-in_default-claim_entry-clause-cause : goal.returns-in_default-claim_entry-clause-cause
-returns-in_default-claim_entry-clause-cause c entry below =
-    let s = c.args.s.now in
-    let t = c.claim_slot.new.s in
-    let n = c.take.new.self in
-    let e = c.claim_entry.new.s in
-    taken-within s.shape t.shape s.number t.number s.local.steps t.local.steps n.local.steps e.local.steps
-    (epoch_of s.local.stand.section) (epoch_of t.local.stand.section) (place.Entry c.args.c entry)
-    (search rules) (search rules) (search rules) (search rules) (grind (arith, common_steps)) (c.in_default-claim_entry.ensures.cause entry (grind (arith, common_steps)))
+pub returns-clause-done : goal.returns-clause-done
+returns-clause-done c = add-does c.args.s.now c.make.new.s c.args.c c.args.words.now c.make.result c.make.ensures.same c.make.ensures.coll (c.make.ensures.made, c.make.ensures.full)
 
-pub returns-clause-made : goal.returns-clause-made
-returns-clause-made c =
-    let s = c.args.s.now in
-    let t = c.claim_slot.new.s in
-    let e = c.claim_entry.new.s in
-    let n = c.store.new.s in
-    let from = c.cursor-from.result in
-    let one = c.in-Some.ensures in
-    let two = c.in-Some-claim_entry.ensures in
-    let epoch = epoch_of s.local.stand.section in
-    record {
-      coll_is = search rules;
-      from = from;
-      starts = c.cursor-from.ensures.is;
-      slot = c.in-Some.slot;
-      first_slot = first-within s.shape s.shape s.number s.number s.local.steps s.local.steps n.local.steps t.local.steps epoch epoch (slots_of s.shape c.args.c) (slots_of s.shape c.args.c) from c.in-Some.slot (λ x. place.Directory c.args.c x)
-          (search rules) (search rules) (search rules) (search rules) (search rules) (grind (arith, common_steps)) one.first;
-      first_entry = first-within s.shape t.shape s.number t.number s.local.steps t.local.steps n.local.steps e.local.steps epoch (epoch_of t.local.stand.section) (entries_of s.shape c.args.c) (entries_of t.shape c.args.c) from c.in-Some-claim_entry.number.entry (λ x. place.Entry c.args.c x)
-          (search rules) (search rules) (search rules) (search rules) (search rules) (grind (arith, common_steps)) two.first;
-      told = search rules;
-    }
+pub returns-clause-stays : goal.returns-clause-stays
+returns-clause-stays c = add-stays c.args.s.now c.make.new.s c.args.c c.args.words.now c.make.result (c.make.ensures.made, c.make.ensures.full)
+
+pub returns-clause-scans : goal.returns-clause-scans
+returns-clause-scans c = add-scans c.args.s.now c.make.new.s c.args.c c.args.words.now c.make.result (c.make.ensures.made, c.make.ensures.full)

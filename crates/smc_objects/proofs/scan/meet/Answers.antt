@@ -1,5 +1,5 @@
 use Rattle.std.proofs.Common.{rules}
-use Rattle.smc_objects.proofs.OwnerLaws.{owner_home}
+use Rattle.smc_region.proofs.OwnerLaws.{owner_home}
 use Rattle.smc_objects.proofs.scan.meet.Goals as goal
 
 pub look-requires-clause-home : goal.look-requires-clause-home
