@@ -14,8 +14,9 @@ use Rattle.smc_region.specs.Looks.{LooksUp, found, missed}
 use Rattle.smc_region.specs.Notes.{Noted, with_learnt, with_note}
 use Rattle.smc_trace.specs.Named.{advances, enters, leaves, learns, looks, notes}
 use Rattle.smc_trace.specs.Trace.{CallEnd, Tells}
-use Rattle.smc_does.specs.Does.{Does, Stays}
-use Rattle.smc_does.proofs.Holdings.{contains-later}
+use Rattle.smc_region.specs.declared.held.Held as F
+use Rattle.smc_does.specs.Does.{Does, IsHeld, Stays}
+use Rattle.smc_does.proofs.Holdings.{contains-first, contains-later}
 
 -- one event and one answer more
 pub tells-one : (old new : Local) (e : Event) (d : Done) → new.log ≡ old.log ++ e ∷ [] → new.answers ≡ old.answers ++ record { length = length (old.log ++ e ∷ []); done = d } ∷ []
@@ -77,3 +78,9 @@ pub look-stays : (old new : Caller) (number : Number) (slot : Option ℕ) → Lo
 look-stays old new number None is = stays-by old new (missed old.local number new.local.steps) is refl refl (λ x has. has)
 look-stays old new number (Some slot) is =
     stays-by old new (found old.local number slot new.local.steps) is refl refl (λ x has. contains-later old.local.stand.held (record { number = number; slot = slot }) x has)
+
+-- what it found is held
+pub look-holds : (old new : Caller) (number : Number) (held : F.Held) → held.number ≡ number → LooksUp (Some held.place) number old.local new.local → IsHeld new held
+look-holds old new number held same is =
+    subst (λ (n : Number). Contains new.local.stand.held (record { number = n; slot = held.place })) (sym same)
+    (subst (λ (k : Local). Contains k.stand.held (record { number = number; slot = held.place })) (sym is) (contains-first old.local.stand.held (record { number = number; slot = held.place })))

@@ -1,5 +1,5 @@
 -- What going on with a scan leaves of its pass, as what it does.
-use Rattle.std.proofs.Common.{◌≡◌, ℕ, ◌+◌, ◌<◌, ◌≤◌, ◌==◌, Bool, true, false, Option, Some, None, List, [], ◌∷◌, ◌++◌, length, refl, sym, subst, ap, ◌∙◌, arith}
+use Rattle.std.proofs.Common.{◌≡◌, ℕ, suc, ◌+◌, ◌<◌, ◌≤◌, ◌==◌, Bool, true, false, Option, Some, None, List, [], ◌∷◌, ◌++◌, length, refl, sym, subst, ap, ◌∙◌, arith}
 use Rattle.std.specs.Prelude.{IfSome, IfNone, if◌then◌else◌, slice_get, Contains}
 use Rattle.std.proofs.lemmas.List.{length-append}
 use Rattle.smc_shape.specs.Layout.{slots_of}
@@ -28,7 +28,7 @@ length-passed (one ∷ later) k place = go (one.number == k) (length-passed late
   where
     go : (b : Bool) → length (passed later k place) ≡ length later → length (if b then record one { place = place } ∷ later else one ∷ passed later k place) ≡ length (one ∷ later)
     go true e = refl
-    go false e = ap (λ (n : ℕ). n + 1) e
+    go false e = ap (λ (n : ℕ). suc n) e
 
 length-ended : (scans : List core.Scan) (k : ℕ) → length (ended scans k) ≡ length scans
 length-ended [] k = refl
@@ -36,7 +36,7 @@ length-ended (one ∷ later) k = go (one.number == k) (length-ended later k)
   where
     go : (b : Bool) → length (ended later k) ≡ length later → length (if b then record one { ended = true } ∷ later else one ∷ ended later k) ≡ length (one ∷ later)
     go true e = refl
-    go false e = ap (λ (n : ℕ). n + 1) e
+    go false e = ap (λ (n : ℕ). suc n) e
 
 -- ---- a begin
 
@@ -118,5 +118,5 @@ module _ (old new : Caller) (one now : Scan) where
 
   pub goes-all : (found : Option Held) (over : Bool) → one.ended ≡ over → GoesOn found over old.shape old.local new.local one now → IfNone found (one.ended ≡ false → slots_of old.shape one.coll ≤ now.place)
   goes-all (Some held) over is goes = tt
-  goes-all None true is goes not = cc
-  goes-all None false is goes not = goes.all
+  goes-all None true is goes = λ not. absurd (cc)
+  goes-all None false is goes = λ not. goes.all

@@ -11,7 +11,7 @@ ghost use Rattle.smc_core.specs.Row.{OpFits};
 ghost use Rattle.smc_core.specs.Section.{epoch_of, is_calm};
 ghost use Rattle.smc_region.specs.Callers.{IsPassOf, IsSame, left};
 ghost use Rattle.smc_region.specs.Choices.{choice_of};
-ghost use Rattle.smc_region.specs.Reached.{Saw, Took};
+ghost use Rattle.smc_region.specs.Reached.{From, Saw, Took};
 ghost use Rattle.smc_region.specs.Sections.{IsWithin, MayBegin, scans_with, cursors_by};
 ghost use Rattle.smc_region.specs.Views.{one, op_of};
 
@@ -142,6 +142,15 @@ impl<'r> Section<'r> {
         ensures { result ≡ length self.now.local.stand.scans }
     {
         self.scans
+    }
+
+    /// Does nothing. What it says holds between the steps of a section: some state that the machine reaches has its local
+    /// state, so every law over reached states holds of it.
+    #[inline(always)]
+    pub fn stands(&self)
+        ensures { From (one self.now.shape self.now.number self.now.local) }
+    {
+        let _number = self.number;
     }
 
     /// The number of its pass.

@@ -1,0 +1,12 @@
+use Rattle.smc_objects.specs.Alone.{SetsField}
+use Rattle.smc_objects.proofs.AloneLaws.{in-section}
+use Rattle.smc_objects.proofs.alone.set_one.Goals as goal
+
+pub returns-clause-done : goal.returns-clause-done
+returns-clause-done c =
+    let does = c.write_found-found.ensures.done in
+    in-section c.args.pass c.enter-section.result c.write_found-found.new.s c.leave.result (SetsField c.args.number c.args.field c.args.value c.write_found-found.result) does.0
+    c.enter-section.ensures.same c.enter-section.ensures.entered does.1 does.2 c.leave.ensures.same c.leave.ensures.left
+
+pub returns-clause-home : goal.returns-clause-home
+returns-clause-home c = (returns-clause-done c).1.same
