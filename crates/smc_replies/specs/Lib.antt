@@ -1,3 +1,4 @@
-pub mod Scanned
 pub mod Commands
+pub mod Scripts
 pub mod Laws
+pub mod Worked
