@@ -9,8 +9,10 @@ mod command;
 mod fault;
 mod name;
 mod script;
+mod table;
 
 pub use command::Command;
 pub use fault::{ScriptFault, ScriptKind};
 pub use name::{FileName, FoldName, FoldNames, ScriptName};
 pub use script::{Commands, Numbered, Part, Parts, Place, Room, Rooms, Script, WorkerPart, Workers};
+pub use table::table_width;
