@@ -1,12 +1,7 @@
 -- The calls of a command are read off from the front of a trace.
-use Rattle.std.proofs.Common.{◌≡◌, ℕ, ◌+◌, Option, Some, None, List, [], ◌∷◌, ◌++◌, length, refl, sym, ap, ◌∙◌, append_assoc, arith}
-use Rattle.std.specs.Prelude.{true, false, Bool, if◌then◌else◌, codes}
-use Rattle.std.specs.Fmt.{decimal}
-use Rattle.std.proofs.lemmas.Grind.{common_steps}
+use Rattle.std.proofs.Common.{◌≡◌, ℕ, Some, None, List, [], ◌∷◌, ◌++◌, length, refl, sym, ap, ◌∙◌, append_assoc}
 use Rattle.smc_words.specs.declared.number.Number.{Number}
-use Rattle.smc_model.specs.declared.event.Event.{Event}
 use Rattle.smc_model.specs.declared.event.Event.TheVariants as event
-use Rattle.smc_core.specs.declared.done.Done.{Done}
 use Rattle.smc_core.specs.declared.done.Done.TheVariants as done
 use Rattle.smc_core.specs.declared.local.Held.{Held}
 use Rattle.smc_trace.specs.Named.{begins, comes_to, enters, leaves}
@@ -81,7 +76,7 @@ whole-front epoch epoch' scan scan' coll met met' rest behind same =
     let below = later-calls _ _ _ _ same in
     let two : scan ≡ scan' = begun-scan _ _ coll (first-event _ _ _ _ below) in
     let inner : visits_all scan met ++ (comes_to scan None ++ (leaves ++ rest)) ≡ visits_all scan' met' ++ (comes_to scan' None ++ (leaves ++ behind)) =
-        sym (flat (visits_all scan met) (comes_to scan None) leaves rest) ∙ later-calls _ _ _ _ below ∙ flat (visits_all scan' met') (comes_to scan' None) leaves behind in
+    sym (flat (visits_all scan met) (comes_to scan None) leaves rest) ∙ later-calls _ _ _ _ below ∙ flat (visits_all scan' met') (comes_to scan' None) leaves behind in
     let three : (met ≡ met') × (leaves ++ rest ≡ leaves ++ behind) = visits-front scan scan' met met' (leaves ++ rest) (leaves ++ behind) inner in
     record {
       calls = ap (λ (e : ℕ). whole e scan coll met) one ∙ ap (λ (k : ℕ). whole epoch' k coll met) two ∙ ap (λ (m : List Held). whole epoch' scan' coll m) three.0;
@@ -99,7 +94,7 @@ scans-front coll count count' first other rest behind one two same =
     let f : first ≡ whole one.epoch one.holds.scan coll one.holds.visits = made-whole coll count first one in
     let o : other ≡ whole two.epoch two.holds.scan coll two.holds.visits = made-whole coll count' other two in
     let is : whole one.epoch one.holds.scan coll one.holds.visits ++ rest ≡ whole two.epoch two.holds.scan coll two.holds.visits ++ behind =
-        ap (λ (x : List CallEnd). x ++ rest) (sym f) ∙ same ∙ ap (λ (x : List CallEnd). x ++ behind) o in
+    ap (λ (x : List CallEnd). x ++ rest) (sym f) ∙ same ∙ ap (λ (x : List CallEnd). x ++ behind) o in
     let read = whole-front one.epoch two.epoch one.holds.scan two.holds.scan coll one.holds.visits two.holds.visits rest behind is in
     record { calls = f ∙ read.calls ∙ sym o; later = read.later; visits = read.visits }
 

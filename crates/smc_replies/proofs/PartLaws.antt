@@ -1,8 +1,7 @@
 -- Parts that are run one behind another.
 use Rattle.std.proofs.Common.{◌≡◌, ℕ, List, [], ◌∷◌, ◌++◌, refl, sym, ap, ◌∙◌, append_assoc, append-nil}
 use Rattle.smc_trace.specs.Trace.{CallEnd}
-use Rattle.smc_script.specs.Trees.{CommandTree, PartTree, one, group, stat}
-use Rattle.smc_replies.specs.Commands.{RunsCommand}
+use Rattle.smc_script.specs.Trees.{PartTree, one, group, stat}
 use Rattle.smc_replies.specs.Laws.{CommandIsOne, IsOnePart, OnePartMore, TextIsOne}
 use Rattle.smc_replies.specs.Scripts.{RunsPart, RunsParts}
 use Rattle.smc_replies.proofs.Fronts.{stat-one}
@@ -31,12 +30,22 @@ joined whole front back more is = ap (λ x. x ++ more) is ∙ append_assoc front
 
 pub one-more : OnePartMore
 one-more [] part before calls text said runs more = (
-  calls, [], said, [], more, (refl, refl),
+  calls,
+  [],
+  said,
+  [],
+  more,
+  (refl, refl),
   ap (λ (x : List CallEnd). x ++ calls) runs.0 ∙ sym (append-nil calls),
   ap (λ (x : List ℕ). x ++ said) runs.1 ∙ sym (append-nil said),
 )
 one-more (p ∷ ps) part before calls text said runs more = (
-  runs.0, runs.1 ++ calls, runs.2, runs.3 ++ said, runs.4, one-more ps part runs.1 calls runs.3 said runs.5 more,
+  runs.0,
+  runs.1 ++ calls,
+  runs.2,
+  runs.3 ++ said,
+  runs.4,
+  one-more ps part runs.1 calls runs.3 said runs.5 more,
   joined before runs.0 runs.1 calls runs.6,
   joined text runs.2 runs.3 said runs.7,
 )

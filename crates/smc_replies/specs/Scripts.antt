@@ -1,5 +1,5 @@
 -- What the parts of a script do, one behind another.
-use Rattle.std.specs.Prelude.{◌≡◌, ℕ, Bool, true, false, if◌then◌else◌, Option, Some, None, List, [], ◌∷◌, ◌++◌}
+use Rattle.std.specs.Prelude.{◌≡◌, ℕ, Bool, false, if◌then◌else◌, Option, Some, None, List, [], ◌∷◌, ◌++◌}
 use Rattle.smc_shape.specs.Layout.{Layout}
 use Rattle.smc_trace.specs.Trace.{CallEnd}
 use Rattle.smc_script.specs.Trees.{NumberedTree, PartTree, one, group}

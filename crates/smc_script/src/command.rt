@@ -1,6 +1,6 @@
+use crate::FoldName;
 use crate::name::{FileName, ScriptName};
 use crate::script::Place;
-use crate::FoldName;
 use smc_query::{Cond, Expr, Query};
 use smc_tokens::Name;
 use smc_types::{Row, Value};

@@ -14,5 +14,7 @@ mod table;
 pub use command::Command;
 pub use fault::{ScriptFault, ScriptKind};
 pub use name::{FileName, FoldName, FoldNames, ScriptName};
-pub use script::{Commands, Numbered, Part, Parts, Place, Room, Rooms, Script, WorkerPart, Workers};
+pub use script::{
+    Commands, Numbered, Part, Parts, Place, Room, Rooms, Script, WorkerPart, Workers,
+};
 pub use table::table_width;

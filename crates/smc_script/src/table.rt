@@ -10,7 +10,9 @@ fn schema_at(schemas: &[Schema], word: &str) -> Option<usize>
     ensures place { result ≡ position (λ schema. bytes_eq schema.name word.now) schemas.now }
     ensures within { IfSome result (λ place. place < length schemas.now) }
 {
-    schemas.iter().position(|schema| schema.name.as_str() == word)
+    schemas
+        .iter()
+        .position(|schema| schema.name.as_str() == word)
 }
 
 /// The number of the table with this name.
