@@ -28,3 +28,4 @@ pub use read::read_script;
 pub use script::{
     Commands, Numbered, Part, Parts, Place, Room, Rooms, Script, WorkerPart, Workers,
 };
+pub use table::table_width;

@@ -1,0 +1,113 @@
+-- What the running of a script does and writes.
+use Rattle.std.specs.Prelude.{◌≡◌, ℕ, true, List, [], ◌∷◌, map, take, Option, Some, None}
+use Rattle.std.specs.List.{AllByRecursion, AllZip}
+use Rattle.std.specs.Io.KnownBytes.{Appends, Keeps}
+use Rattle.smc_outside.specs.Pieces.{AppendsFront}
+use Rattle.smc_shape.specs.declared.coll.CollShape.{CollShape}
+use Rattle.smc_shape.specs.Faults.{fault_of}
+use Rattle.smc_shape.specs.Layout.{Layout, asked}
+use Rattle.smc_core.specs.declared.section.TheConstants.{FIRST_EPOCH}
+use Rattle.smc_region.specs.Callers.{Caller}
+use Rattle.smc_region.specs.Ends.{Ended}
+use Rattle.smc_region.specs.Reached.{IsReached}
+use Rattle.smc_trace.specs.Trace.{CallEnd, IsTrace}
+use Rattle.smc_does.specs.Does.{DoesSome}
+use Rattle.smc_types.specs.Tables.{the_tables}
+use Rattle.smc_script.specs.declared.script.Room.{Room}
+use Rattle.smc_script.specs.Tables.{table_width}
+use Rattle.smc_script.specs.Trees.{PartTree, ScriptTree}
+use Rattle.smc_replies.specs.Scripts.{FitsRegion, RunsPart, RunsParts, is_known_part}
+use Rattle.smc_desk.specs.declared.alone.RunEnd.{RunEnd}
+use Rattle.smc_desk.specs.declared.alone.RunEnd.TheVariants.{Done, WriteFault, NoMemory}
+
+-- ---- the region of a script
+
+-- what is asked of the region: a collection for each room, whose records are as wide as its table's
+abbrev pub colls_asked : List Room → List CollShape
+colls_asked rooms = map (λ room. let coll : CollShape = record { width = table_width the_tables room.place.table; slots = room.slots } in coll) rooms
+
+-- it has one pass
+abbrev pub shape_asked : List Room → Layout
+shape_asked rooms = asked 1 (colls_asked rooms)
+
+-- a region may have these collections; a script without rooms opens none
+abbrev pub MayOpen : List Room → Type 0
+MayOpen [] = Unit {0}
+MayOpen (room ∷ later) = fault_of 1 (colls_asked (room ∷ later)) ≡ None
+
+-- each part is one that is run, and its collections lie in the region
+abbrev pub MayRun : Layout → PartTree → Type 0
+MayRun shape part = (is_known_part part ≡ true) × FitsRegion shape part
+
+-- ---- parts that are run by a pass
+
+-- parts were run by these calls, and what was written grew in this way by their replies
+abbrev pub Replies : (Option (List ℕ) → Option (List ℕ) → List ℕ → Type 0) → List PartTree → List CallEnd → Option (List ℕ) → Option (List ℕ) → Type 0
+Replies grows parts calls before after = (text : List ℕ) × RunsParts parts calls text × grows before after text
+
+-- the same of one part
+abbrev pub Replied : (Option (List ℕ) → Option (List ℕ) → List ℕ → Type 0) → PartTree → List CallEnd → Option (List ℕ) → Option (List ℕ) → Type 0
+Replied grows part calls before after = (text : List ℕ) × RunsPart part calls text × grows before after text
+
+-- what is written of a text, as its writing ends: all of it, or a front
+abbrev pub Writes : RunEnd → Option (List ℕ) → Option (List ℕ) → List ℕ → Type 0
+Writes Done before after text = Appends before after text
+Writes WriteFault before after text = AppendsFront before after text
+Writes NoMemory before after text = ⊥
+
+-- how one part ends; without memory nothing was written
+abbrev pub PartEnds : RunEnd → PartTree → Caller → Caller → Option (List ℕ) → Option (List ℕ) → Type 0
+PartEnds Done part old new before after = DoesSome old new (λ calls. Replied Appends part calls before after)
+PartEnds WriteFault part old new before after = DoesSome old new (λ calls. Replied AppendsFront part calls before after)
+PartEnds NoMemory part old new before after = Keeps before after
+
+-- the first parts, as many as were run, were run by these calls, and a front of their replies was written
+abbrev pub RepliesFront : List PartTree → List CallEnd → Option (List ℕ) → Option (List ℕ) → Type 0
+RepliesFront parts calls before after = (count : ℕ) × Replies AppendsFront (take count parts) calls before after
+
+-- how parts end
+abbrev pub PartsEnd : RunEnd → List PartTree → Caller → Caller → Option (List ℕ) → Option (List ℕ) → Type 0
+PartsEnd Done parts old new before after = DoesSome old new (λ calls. Replies Appends parts calls before after)
+PartsEnd WriteFault parts old new before after = DoesSome old new (λ calls. RepliesFront parts calls before after)
+PartsEnd NoMemory parts old new before after = (calls : List CallEnd) × RepliesFront parts calls before after
+
+-- ---- the closed region
+
+-- the passes of the closed region have done this, and no more
+abbrev pub AreTraces : Ended → List (List CallEnd) → Type 0
+AreTraces quiet traces = AllZip IsTrace quiet.locals traces
+
+-- a region of this shape, closed in a state that it reached, whose one pass has made these calls
+pub record IsClosed (shape : Layout) (quiet : Ended) (calls : List CallEnd) : Type 0 where
+  pub same_shape : quiet.shape ≡ shape
+  pub opening : quiet.opening ≡ record { epoch = FIRST_EPOCH; incarnation = 0 }
+  pub reached : IsReached quiet.shape quiet.opening quiet.words quiet.locals
+  pub traces : AreTraces quiet (calls ∷ [])
+
+-- there is such a region
+abbrev pub HasClosed : Layout → Option Ended → List CallEnd → Type 0
+HasClosed shape None calls = ⊥
+HasClosed shape (Some quiet) calls = IsClosed shape quiet calls
+
+-- the region of these rooms was closed so; where there are none there is no region, and no calls are made
+abbrev pub Closes : List Room → Option Ended → List CallEnd → Type 0
+Closes [] None calls = calls ≡ []
+Closes [] (Some quiet) calls = ⊥
+Closes (room ∷ later) quiet calls = HasClosed (shape_asked (room ∷ later)) quiet calls
+
+-- ---- a script
+
+-- how the running of parts ends: by calls that are those of the closed region
+abbrev pub RunsAs : (Option Ended → List CallEnd → Type 0) → RunEnd → List PartTree → Option Ended → Option (List ℕ) → Option (List ℕ) → Type 0
+RunsAs Closed Done parts quiet before after = (calls : List CallEnd) × Replies Appends parts calls before after × Closed quiet calls
+RunsAs Closed WriteFault parts quiet before after = (calls : List CallEnd) × RepliesFront parts calls before after × Closed quiet calls
+RunsAs Closed NoMemory parts quiet before after = (calls : List CallEnd) × RepliesFront parts calls before after × (quiet ≡ None)
+
+-- how the running of a script ends
+abbrev pub RunsTo : RunEnd → ScriptTree → Option Ended → Option (List ℕ) → Option (List ℕ) → Type 0
+RunsTo end script quiet before after = RunsAs (Closes script.rooms) end script.parts quiet before after
+
+-- what holds of a script that was read: a region may have its rooms, and the collections of its parts lie in it
+pub record IsSound (script : ScriptTree) : Type 0 where
+  pub opens : MayOpen script.rooms
+  pub fits : AllByRecursion (FitsRegion (shape_asked script.rooms)) script.parts

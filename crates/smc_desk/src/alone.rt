@@ -1,0 +1,222 @@
+//! A script is run on a region of its own.
+ghost use Rattle.std.specs.Prelude.{◌≡◌, ◌≤◌, [], ◌∷◌, None, IfOk, map};
+ghost use Rattle.std.specs.List.{AllByRecursion};
+ghost use Rattle.smc_outside.specs.Causes.{Rose};
+ghost use Rattle.smc_shape.specs.Faults.{fault_of};
+ghost use Rattle.smc_region.specs.Callers.{IsPassOf, IsSame, new_caller};
+ghost use Rattle.smc_script.specs.Trees.{numbered_tree, part_tree, script_tree};
+ghost use Rattle.smc_script.specs.Trees as trees;
+ghost use Rattle.smc_region.specs.Reached.{IsReached};
+ghost use Rattle.smc_core.specs.declared.section.TheConstants.{FIRST_EPOCH};
+ghost use Rattle.smc_desk.specs.Runs.{HasClosed, MayOpen, MayRun, PartEnds, PartsEnd, Writes, RunsAs, RunsTo, colls_asked, shape_asked};
+
+use crate::outside::one;
+use crate::reply::Reply;
+use smc_core::Opening;
+use smc_outside::{Sink, write_all};
+use smc_region::{Pass, Quiet, Region};
+use smc_script::{Numbered, Part, Room, Script, table_width};
+use smc_shape::{CollShape, Shape};
+use smc_types::tpch;
+use smc_words::NoMemory;
+use std::alloc::Global;
+
+/// How the running of a script ends.
+#[derive(Clone, Copy, Debug, PartialEq, Eq)]
+pub enum RunEnd {
+    /// Each command was run, and each reply was written.
+    Done,
+    /// The output failed, and has a front of the replies.
+    WriteFault,
+    /// Memory was refused. A front of the replies was written.
+    NoMemory,
+}
+
+/// How the running of a script ended, and its region, closed with all its passes, where it had one.
+pub struct Ran {
+    pub end: RunEnd,
+    pub quiet: Option<Quiet>,
+}
+
+impl Ran {
+    /// An end without a region.
+    fn without(end: RunEnd) -> Ran
+        ensures end { result.end ≡ end }
+        ensures quiet { result.quiet ≡ None }
+    {
+        Ran { end, quiet: None }
+    }
+}
+
+// The shape of the region in which these rooms are.
+fn shape_of(alloc: Global, rooms: &[Room]) -> Result<Shape, NoMemory>
+    requires opens { fault_of 1 (colls_asked rooms.now) ≡ None }
+    ensures { IfOk result (λ shape. shape ≡ shape_asked rooms.now) }
+{
+    let catalog = tpch(alloc)?;
+    let mut colls = Vec::new(alloc);
+    for room in rooms {
+        colls.push(CollShape {
+            width: table_width(&catalog, room.place.table),
+            slots: room.slots,
+        })?;
+    }
+    match Shape::new(1, colls) {
+        Ok(shape) => Ok(shape),
+        Err(_) => unreachable!(),
+    }
+}
+
+// Writes a reply.
+fn write_reply<O: Sink>(out: &mut O, reply: &Reply) -> RunEnd
+    ensures ends { Writes result (O.held out.old) (O.held out.new) reply.now }
+    ensures cause { result ≡ RunEnd.WriteFault → Rose (O.faults out.old) (O.faults out.new) }
+    ensures later { O.faults out.old ≤ O.faults out.new }
+{
+    match write_all(out, reply.text()) {
+        Ok(()) => RunEnd::Done,
+        Err(_) => RunEnd::WriteFault,
+    }
+}
+
+// Runs one command, and writes its reply.
+fn run_one<O: Sink>(
+    alloc: Global,
+    numbered: &Numbered,
+    pass: Pass,
+    region: &Region,
+    out: &mut O,
+) -> (Pass, RunEnd)
+    requires here { IsPassOf region.now pass }
+    requires may { MayRun region.now.about.shape (trees.one (numbered_tree numbered.now)) }
+    ensures home { IsSame pass result.0 }
+    ensures ends { PartEnds result.1 (trees.one (numbered_tree numbered.now)) pass result.0 (O.held out.old) (O.held out.new) }
+    ensures cause { result.1 ≡ RunEnd.WriteFault → Rose (O.faults out.old) (O.faults out.new) }
+    ensures later { O.faults out.old ≤ O.faults out.new }
+{
+    let (pass, reply) = one(alloc, &numbered.command, pass, region);
+    match reply {
+        Ok(reply) => (pass, write_reply(out, &reply)),
+        Err(_) => (pass, RunEnd::NoMemory),
+    }
+}
+
+// Runs one part, and writes its reply.
+fn run_part<O: Sink>(
+    alloc: Global,
+    part: &Part,
+    pass: Pass,
+    region: &Region,
+    out: &mut O,
+) -> (Pass, RunEnd)
+    requires here { IsPassOf region.now pass }
+    requires may { MayRun region.now.about.shape (part_tree part.now) }
+    ensures home { IsSame pass result.0 }
+    ensures ends { PartEnds result.1 (part_tree part.now) pass result.0 (O.held out.old) (O.held out.new) }
+    ensures cause { result.1 ≡ RunEnd.WriteFault → Rose (O.faults out.old) (O.faults out.new) }
+    ensures later { O.faults out.old ≤ O.faults out.new }
+{
+    match part {
+        Part::One(numbered) => run_one(alloc, numbered, pass, region, out),
+        Part::Group { .. } => unreachable!(),
+    }
+}
+
+// Runs the parts in order. The reply to each is written before the next one starts.
+fn run_parts<O: Sink>(
+    alloc: Global,
+    parts: &[Part],
+    pass: Pass,
+    region: &Region,
+    out: &mut O,
+) -> (Pass, RunEnd)
+    requires here { IsPassOf region.now pass }
+    requires may { AllByRecursion (MayRun region.now.about.shape) (map part_tree parts.now) }
+    ensures home { IsSame pass result.0 }
+    ensures ends { PartsEnd result.1 (map part_tree parts.now) pass result.0 (O.held out.old) (O.held out.new) }
+    ensures cause { result.1 ≡ RunEnd.WriteFault → Rose (O.faults out.old) (O.faults out.new) }
+    ensures later { O.faults out.old ≤ O.faults out.new }
+{
+    let mut pass = pass;
+    for part in parts {
+        let (next, end) = run_part(alloc, part, pass, region, out);
+        pass = next;
+        match end {
+            RunEnd::Done => {}
+            end => return (pass, end),
+        }
+    }
+    (pass, RunEnd::Done)
+}
+
+// A region without objects, and its one pass. The vector has room for that pass.
+fn open_region(alloc: Global, shape: Shape) -> Result<(Region, Pass, Vec<Pass>), NoMemory>
+    requires { shape.passes ≡ 1 }
+    ensures shape { IfOk result (λ opened. opened.0.about.shape ≡ shape) }
+    ensures opening { IfOk result (λ opened. opened.0.about.opening ≡ record { epoch = FIRST_EPOCH; incarnation = 0 }) }
+    ensures pass { IfOk result (λ opened. opened.1 ≡ new_caller opened.0.table.shared.table_id shape 0) }
+    ensures rest { IfOk result (λ opened. opened.2.items ≡ []) }
+{
+    let (region, mut passes) = Region::open(alloc, shape, Opening::plain())?;
+    match passes.pop() {
+        Some(pass) => Ok((region, pass, passes)),
+        None => unreachable!(),
+    }
+}
+
+// Closes a region that has this pass alone.
+fn close_region(region: Region, pass: Pass, mut passes: Vec<Pass>) -> Result<Quiet, NoMemory>
+    requires rest { passes.items ≡ [] }
+    requires one { region.about.shape.passes ≡ 1 }
+    requires here { IsPassOf region pass }
+    requires first { pass.number ≡ 0 }
+    ensures shape { IfOk result (λ quiet. quiet.shape ≡ region.about.shape) }
+    ensures opening { IfOk result (λ quiet. quiet.opening ≡ region.about.opening) }
+    ensures locals { IfOk result (λ quiet. quiet.locals ≡ pass.local ∷ []) }
+    ensures reached { IfOk result (λ quiet. IsReached quiet.shape quiet.opening quiet.words quiet.locals) }
+{
+    passes.push(pass).map_err(|_| NoMemory)?;
+    Ok(region.close(passes))
+}
+
+// Runs the parts by the one pass of a new region, and closes it.
+fn run_in<O: Sink>(alloc: Global, shape: Shape, parts: &[Part], out: &mut O) -> Ran
+    requires one { shape.passes ≡ 1 }
+    requires may { AllByRecursion (MayRun shape) (map part_tree parts.now) }
+    ensures ends { RunsAs (HasClosed shape) result.end (map part_tree parts.now) result.quiet (O.held out.old) (O.held out.new) }
+    ensures cause { result.end ≡ RunEnd.WriteFault → Rose (O.faults out.old) (O.faults out.new) }
+    ensures later { O.faults out.old ≤ O.faults out.new }
+{
+    let Ok((region, pass, passes)) = open_region(alloc, shape) else {
+        return Ran::without(RunEnd::NoMemory);
+    };
+    let (pass, end) = run_parts(alloc, parts, pass, &region, out);
+    if matches!(end, RunEnd::NoMemory) {
+        return Ran::without(RunEnd::NoMemory);
+    }
+    match close_region(region, pass, passes) {
+        Ok(quiet) => Ran {
+            end,
+            quiet: Some(quiet),
+        },
+        Err(_) => Ran::without(RunEnd::NoMemory),
+    }
+}
+
+/// Runs a script without groups. Each reply is written before the next command starts.
+pub fn run_alone<O: Sink>(alloc: Global, script: &Script, out: &mut O) -> Ran
+    requires opens { MayOpen script.now.rooms }
+    requires may { AllByRecursion (MayRun (shape_asked script.now.rooms)) (map part_tree script.now.parts) }
+    ensures ends { RunsTo result.end (script_tree script.now) result.quiet (O.held out.old) (O.held out.new) }
+    ensures cause { result.end ≡ RunEnd.WriteFault → Rose (O.faults out.old) (O.faults out.new) }
+    ensures later { O.faults out.old ≤ O.faults out.new }
+{
+    let rooms = script.rooms.as_slice();
+    if rooms.is_empty() {
+        return Ran::without(RunEnd::Done);
+    }
+    match shape_of(alloc, rooms) {
+        Ok(shape) => run_in(alloc, shape, script.parts.as_slice(), out),
+        Err(_) => Ran::without(RunEnd::NoMemory),
+    }
+}

@@ -1,0 +1,39 @@
+//! The reply to a command.
+ghost use Rattle.std.specs.Prelude.{◌≡◌, IfOk};
+ghost use Rattle.smc_replies.specs.Commands.{objects_line};
+
+use smc_words::NoMemory;
+use std::alloc::Global;
+use std::marker::Model;
+
+/// The reply to a command, with its line ends. Contracts see its bytes.
+#[derive(Debug, Drop)]
+pub struct Reply {
+    text: String,
+}
+
+impl Model for Reply {
+    ghost use Rattle.std.specs.Prelude.{List, ℕ, string_bytes};
+
+    ghost Value = { List ℕ };
+
+    ghost view = { λ reply. string_bytes reply.text };
+}
+
+impl Reply {
+    /// The bytes of the reply.
+    pub fn text(&self) -> &[u8]
+        ensures { result.now ≡ self.now }
+    {
+        self.text.as_bytes()
+    }
+}
+
+/// The line that says how many objects there are.
+pub(crate) fn objects_line(alloc: Global, count: u64) -> Result<Reply, NoMemory>
+    ensures { IfOk result (λ reply. reply ≡ objects_line count) }
+{
+    Ok(Reply {
+        text: format!(in alloc; "objects {count}\n")?,
+    })
+}

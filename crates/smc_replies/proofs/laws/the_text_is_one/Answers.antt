@@ -1,0 +1,5 @@
+use Rattle.smc_replies.proofs.PartLaws.{text-one}
+use Rattle.smc_replies.proofs.laws.the_text_is_one.Goals as goal
+
+pub returns : goal.returns
+returns c = text-one

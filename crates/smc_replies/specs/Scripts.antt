@@ -1,0 +1,43 @@
+-- What the parts of a script do, one behind another.
+use Rattle.std.specs.Prelude.{◌≡◌, ℕ, Bool, false, if◌then◌else◌, Option, Some, None, List, [], ◌∷◌, ◌++◌}
+use Rattle.smc_shape.specs.Layout.{Layout}
+use Rattle.smc_trace.specs.Trace.{CallEnd}
+use Rattle.smc_script.specs.Trees.{NumberedTree, PartTree, one, group}
+use Rattle.smc_replies.specs.Commands.{IsInRegion, RunsCommand, is_known}
+
+-- the line of the first command of these
+abbrev pub first_line : List NumberedTree → ℕ
+first_line [] = 0
+first_line (numbered ∷ later) = numbered.line
+
+-- the line of the first command of a part
+abbrev pub line_of : PartTree → ℕ
+line_of (one numbered) = numbered.line
+line_of (group []) = 0
+line_of (group (worker ∷ later)) = first_line worker
+
+-- the parts that are run: a group is refused as a command is that is not
+abbrev pub is_known_part : PartTree → Bool
+is_known_part (one numbered) = is_known numbered.command
+is_known_part (group workers) = false
+
+-- the line at which the first part that is not run begins
+abbrev pub unknown_line : List PartTree → Option ℕ
+unknown_line [] = None
+unknown_line (part ∷ later) = if is_known_part part then unknown_line later else Some (line_of part)
+
+-- the collections of a part lie in the region
+abbrev pub FitsRegion : Layout → PartTree → Type 0
+FitsRegion shape (one numbered) = IsInRegion shape numbered.command
+FitsRegion shape (group workers) = Unit {0}
+
+-- a part makes these calls, and this is its reply
+abbrev pub RunsPart : PartTree → List CallEnd → List ℕ → Type 0
+RunsPart (one numbered) calls text = RunsCommand numbered.command calls text
+RunsPart (group workers) calls text = ⊥
+
+-- parts that are run one behind another: their calls and their replies in one list
+abbrev pub RunsParts : List PartTree → List CallEnd → List ℕ → Type 0
+RunsParts [] calls text = (calls ≡ []) × (text ≡ [])
+RunsParts (part ∷ later) calls text = (first rest : List CallEnd) × (said behind : List ℕ) × RunsPart part first said × RunsParts later rest behind
+    × (calls ≡ first ++ rest) × (text ≡ said ++ behind)

@@ -1,0 +1,10 @@
+//! What each command of a script does, and what it replies.
+//!
+//! `specs/Commands.antt` has one record for each command that is run: the calls of its pass, in order, and the text of
+//! its reply, which follows from them; it also says which commands these are. `specs/Scripts.antt` puts the parts of a
+//! script one behind another, and `laws` has what follows of all of them: a command's calls are read off from the front
+//! of a trace, and one trace has one text. Below stand the calls on objects and the types of scripts; above, the programs
+//! that run scripts. There is no code here.
+#![tactic(auto)]
+
+pub mod laws;
