@@ -11,14 +11,10 @@
 //! where it stops, is defined in `specs/Texts.antt`; `specs/Places.antt` has the bytes of the places of tokens.
 #![tactic(auto)]
 
-#[cfg(test)]
-mod examples;
 mod fault;
 pub mod laws;
 mod limits;
 mod place;
-#[cfg(test)]
-mod tests;
 mod text;
 
 pub use fault::ParseFault;

@@ -14,8 +14,6 @@ pub mod laws;
 mod lists;
 mod number;
 mod query;
-#[cfg(test)]
-mod tests;
 mod token;
 
 pub use query::print;
