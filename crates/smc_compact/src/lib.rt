@@ -19,8 +19,6 @@ pub mod laws;
 mod outcome;
 mod packing;
 mod rounds;
-#[cfg(test)]
-mod tests;
 
 pub use begun::{Begun, Round};
 pub use cancelling::cancel;
