@@ -99,3 +99,36 @@ impl Bench {
         }
     }
 }
+
+#[cfg(test)]
+mod tests {
+    use super::*;
+    use crate::{Distinct, Median, Range};
+    use std::test::Fail;
+
+    #[test]
+    fn boxes_are_found_by_name(rt: HostRuntime) -> Result<(), Fail> {
+        let alloc = rt.alloc();
+        let mut boxes = Vec::new(alloc);
+        boxes.push(Boxed {
+            fold: Box::new(alloc, Distinct::new())?,
+        })?;
+        boxes.push(Boxed {
+            fold: Box::new(alloc, Median::new())?,
+        })?;
+        boxes.push(Boxed {
+            fold: Box::new(alloc, Range::new())?,
+        })?;
+        let mut bench = Bench { boxes };
+        assert_eq!(rt; bench.scaled("distinct"), Some(false));
+        assert_eq!(rt; bench.scaled("median"), Some(true));
+        assert_eq!(rt; bench.scaled("total"), None);
+        assert_eq!(rt; bench.use_one("distinct", &[]), Some(Some(0)));
+        assert_eq!(rt; bench.use_one("range", &[]), Some(None));
+        assert_eq!(rt; bench.use_one("total", &[]), None);
+        assert!(rt; bench.drop_one("median"));
+        assert!(rt; !bench.drop_one("median"));
+        assert_eq!(rt; bench.use_one("median", &[]), None);
+        Ok(())
+    }
+}
