@@ -1,11 +1,14 @@
 -- A script that was read is sound.
-use Rattle.std.proofs.Common.{◌≡◌, ℕ, ◌+◌, List, [], ◌∷◌, ◌⊎◌, inl, inr, map, Bool, false, Option, None, Some, Ok, Err, refl, sym, ap, ◌∙◌, subst}
+use Rattle.std.proofs.Common.{◌≡◌, ◌≤◌, arith, ℕ, ◌+◌, List, [], ◌∷◌, ◌⊎◌, inl, inr, map, Bool, false, Option, None, Some, Ok, Err, refl, sym, ap, ◌∙◌, subst}
 use Rattle.std.proofs.lemmas.Simd.{map-map}
 use Rattle.std.specs.declared.result.Result.{Result}
 use Rattle.std.specs.Option.{option_or}
 use Rattle.std.specs.Prelude.{◌||◌, IfOk}
 use Rattle.smc_query.specs.Trees.{Word}
 use Rattle.smc_shape.specs.Faults.{fault_of}
+use Rattle.smc_shape.specs.Layout.{IsShape, asked, words_of}
+use Rattle.smc_shape.specs.declared.coll.CollShape.{CollShape}
+use Rattle.smc_shape.proofs.AskedLaws.{fault_of-none, no-fault_of}
 use Rattle.smc_shape.specs.declared.shape.TheConstants.{MAX_PASSES}
 use Rattle.smc_types.specs.declared.catalog.Catalog.{Catalog}
 use Rattle.smc_script.specs.Faults.{LineGives, passed_over, no_text, no_command, command, has_room, is_doing, is_too_large, room_fault, name_fault, said_fault, taken}
@@ -35,12 +38,32 @@ first-none : (one other : Option ScriptKind) → option_or one other ≡ None �
 first-none None other is = refl
 first-none (Some kind) other is = absurd cc
 
+-- a region has no more words with fewer passes
+words-fewer : (passes : ℕ) (colls : List CollShape) → passes ≤ MAX_PASSES → words_of (asked passes colls) ≤ words_of (asked MAX_PASSES colls)
+unfolding words_of
+words-fewer passes colls few = omega arith
+
+-- what every region keeps, with fewer passes
+shape-fewer : (passes : ℕ) (colls : List CollShape) → 1 ≤ passes → passes ≤ MAX_PASSES → IsShape (asked MAX_PASSES colls) → IsShape (asked passes colls)
+shape-fewer passes colls some few shape = record {
+  some_pass = omega arith;
+  passes = few;
+  some_coll = shape.some_coll;
+  colls = shape.colls;
+  coll = shape.coll;
+  words = (let fewer = words-fewer passes colls few in let most = shape.words in omega arith);
+}
+
+-- a region that opens with the most passes opens with fewer
+fewer-open : (colls : List CollShape) → fault_of MAX_PASSES colls ≡ None → Opens colls
+fewer-open colls none = inr (λ passes some few. fault_of-none passes colls (shape-fewer passes colls some few (no-fault_of MAX_PASSES colls none)))
+
 -- a room that is not refused leaves a region that opens
 room-opens : (catalog : Catalog) (state : ReadState) (table slots : ℕ) → room_fault catalog state (room table (Some slots)) ≡ None
     → Opens (colls_of catalog (with_room (record { table = table; slots = slots }) state.rooms))
 room-opens catalog state table slots is =
     let rooms : List Asked = with_room (record { table = table; slots = slots }) state.rooms in
-    inr (none-there (fault_of MAX_PASSES (colls_of catalog rooms))
+    fewer-open (colls_of catalog rooms) (none-there (fault_of MAX_PASSES (colls_of catalog rooms))
     (none-last (is_doing state.phase) (has_room state.rooms table) (is_too_large catalog rooms)
     (fault-none (is_doing state.phase || has_room state.rooms table || is_too_large catalog rooms) Room is)))
 
