@@ -1,3 +1,4 @@
 mod SaysLaws
 mod StateLaws
 mod ScriptLaws
+mod SoundLaws

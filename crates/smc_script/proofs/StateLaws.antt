@@ -30,7 +30,7 @@ none-last false true c is = absurd cc
 none-last false false c is = is
 
 -- nothing is there where that is said
-none-there : {A : Type 0} (o : Option A) → is_some o ≡ false → o ≡ None
+pub none-there : {A : Type 0} (o : Option A) → is_some o ≡ false → o ≡ None
 none-there None is = refl
 none-there (Some x) is = absurd cc
 

@@ -4,3 +4,4 @@ pub mod Says
 pub mod States
 pub mod Faults
 pub mod Scripts
+pub mod Sound

@@ -3,6 +3,7 @@ ghost use Rattle.std.specs.Prelude.{◌≡◌, ◌≢◌, ◌≤◌, [], Err, If
 ghost use Rattle.smc_outside.specs.Causes.{Rose};
 ghost use Rattle.smc_outside.specs.Told.{OnTold};
 ghost use Rattle.smc_script.specs.Scripts.{Answers, LinesEnd, LinesGive, TextGives, limit_fault};
+ghost use Rattle.smc_script.specs.Sound.{IsSound};
 ghost use Rattle.smc_script.specs.States.{start};
 
 use crate::fault::{ScriptFault, ScriptKind};
@@ -99,6 +100,7 @@ pub fn read_script<S: Source>(
 ) -> Result<Script, ScriptFault>
     ensures gives { Answers result (λ outcome. OnTold (S.left source.old) (S.left source.new) (λ text _. TextGives catalog.now folds text outcome)) }
     ensures end { IfOk result (λ _. OnTold (S.left source.old) (S.left source.new) (λ _ left. left ≡ [])) }
+    ensures sound { IfOk result (IsSound catalog.now) }
     ensures failed { result ≡ Err ScriptFault.ReadFault → Rose (S.faults source.old) (S.faults source.new) }
     ensures later { S.faults source.old ≤ S.faults source.new }
 {

@@ -3,6 +3,7 @@ use Rattle.smc_lines.specs.declared.fault.LinesFault.{LinesFault}
 use Rattle.smc_script.specs.declared.script.Script.{Script}
 use Rattle.smc_script.specs.declared.fault.ScriptFault.TheVariants.{ReadFault}
 use Rattle.smc_script.proofs.ScriptLaws.{answer-fault, inside-only, left-answers, limit-answers, lines-answer, read-fault}
+use Rattle.smc_script.proofs.SoundLaws.{answer-sound}
 use Rattle.smc_script.proofs.read.read_script.Goals as goal
 
 pub returns-in-Err-clause-gives : goal.returns-in-Err-clause-gives
@@ -25,3 +26,7 @@ returns-clause-end g c =
 
 pub returns-clause-failed : goal.returns-clause-failed
 returns-clause-failed g c is = absurd (inside-only c.script_of_lines.result c.script_of_lines.ensures.inside is)
+
+pub returns-clause-sound : goal.returns-clause-sound
+returns-clause-sound g c =
+    answer-sound c.args.catalog.now c.args.folds c.in-Ok.lines c.script_of_lines.result c.script_of_lines.ensures.gives
