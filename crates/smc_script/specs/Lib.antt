@@ -1,2 +1,6 @@
 pub mod Trees
 pub mod Tables
+pub mod Says
+pub mod States
+pub mod Faults
+pub mod Scripts

@@ -1,19 +1,30 @@
 //! Scripts: from the bytes of a script to its typed commands, or to the first line that is refused, with the kind of refusal.
 //!
-//! `script` has a script and its parts, `command` the commands, `name` the names in them, and `fault` says why a script is
-//! refused. Below stand `smc_query` and `smc_types`, with what the commands hold; above, the crates that run commands. A
-//! script as a tree is defined in `specs/Trees.antt`.
+//! `read` has the call, `state` keeps what was read, `reader` takes one more line, and `said` reads what a line says whatever
+//! went before it; `table` finds the tables that it names. `script` has a script and its parts, `command` the commands,
+//! `name` the names in them, `fault` says why a script is refused, and `limits` how much it may ask for. Below stand
+//! `smc_lines`, which reads the lines, `smc_lang` for the text of queries, `smc_types` with the tables that there are,
+//! and `smc_shape`, which knows the regions; above, the crates that run commands.
+//!
+//! What a line says is defined in `specs/Says.antt`, what stands before a line in `States.antt`, the kind of refusal of a
+//! line in `Faults.antt`, and what a whole text gives in `Scripts.antt`, over the trees of `Trees.antt`.
 #![tactic(auto)]
 
 mod command;
 mod fault;
+mod limits;
 mod name;
+mod read;
+mod reader;
+mod said;
 mod script;
+mod state;
 mod table;
 
 pub use command::Command;
 pub use fault::{ScriptFault, ScriptKind};
 pub use name::{FileName, FoldName, FoldNames, ScriptName};
+pub use read::read_script;
 pub use script::{
     Commands, Numbered, Part, Parts, Place, Room, Rooms, Script, WorkerPart, Workers,
 };

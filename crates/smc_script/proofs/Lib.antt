@@ -1,0 +1,3 @@
+mod SaysLaws
+mod StateLaws
+mod ScriptLaws

@@ -1,0 +1,95 @@
+-- The kind of refusal of a line, by what stands before it.
+use Rattle.std.specs.Prelude.{◌≡◌, ℕ, Bool, true, false, not, is_some, ◌&&◌, ◌||◌, if◌then◌else◌, List, [], ◌∷◌, Option, Some, None, Result, Ok, Err}
+use Rattle.std.specs.List.{list_all, list_any}
+use Rattle.std.specs.Option.{option_or}
+use Rattle.std.specs.Str.{bytes_eq}
+use Rattle.smc_lines.specs.Ahead.{Counts, IsPassedOver, IsText}
+use Rattle.smc_query.specs.Trees.{Word, QueryTree, ItemTree, CallTree, count, aggregate, fold}
+use Rattle.smc_shape.specs.Faults.{fault_of}
+use Rattle.smc_shape.specs.declared.shape.TheConstants.{MAX_PASSES}
+use Rattle.smc_types.specs.declared.catalog.Catalog.{Catalog}
+use Rattle.smc_script.specs.Says.{SaidTree, LineSays, room, load, query, compact, stat}
+use Rattle.smc_script.specs.States.{ReadState, after, colls_of, room_at, with_room}
+use Rattle.smc_script.specs.Tables.{table_named}
+use Rattle.smc_script.specs.declared.fault.ScriptKind.{ScriptKind}
+use Rattle.smc_script.specs.declared.fault.ScriptKind.TheVariants.{Grammar, Room, Name}
+use Rattle.smc_script.specs.declared.state.Asked.{Asked}
+use Rattle.smc_script.specs.declared.state.Phase.{Phase}
+use Rattle.smc_script.specs.declared.state.Phase.TheVariants.{Asking, Doing}
+
+-- this kind where the test holds
+abbrev pub fault_where : Bool → ScriptKind → Option ScriptKind
+fault_where test kind = if test then Some kind else None
+
+-- whether commands have begun
+abbrev pub is_doing : Phase → Bool
+is_doing Asking = false
+is_doing Doing = true
+
+-- whether the table has a room
+abbrev pub has_room : List Asked → ℕ → Bool
+has_room rooms table = is_some (room_at rooms table)
+
+-- whether no region has these collections, also with as many passes as a script can have
+abbrev pub is_too_large : Catalog → List Asked → Bool
+is_too_large catalog rooms = is_some (fault_of MAX_PASSES (colls_of catalog rooms))
+
+-- whether there can't be such a room beside the others
+abbrev pub is_no_room : Catalog → List Asked → ℕ → Option ℕ → Bool
+is_no_room catalog rooms table None = true
+is_no_room catalog rooms table (Some slots) = is_too_large catalog (with_room (record { table = table; slots = slots }) rooms)
+
+-- rooms are asked for before all commands, each once, with a number in its range, and together they fit a region
+abbrev pub room_fault : Catalog → ReadState → SaidTree → Option ScriptKind
+room_fault catalog state (room table slots) = fault_where (is_doing state.phase || has_room state.rooms table || is_no_room catalog state.rooms table slots) Room
+room_fault catalog state said = None
+
+-- whether a call is no fold, or one of these
+abbrev pub knows_call : List Word → CallTree → Bool
+knows_call folds count = true
+knows_call folds (aggregate kind of) = true
+knows_call folds (fold name of) = list_any (λ known. bytes_eq known name) folds
+
+-- whether each fold of the query is one of these
+abbrev pub knows_folds : List Word → List ItemTree → Bool
+knows_folds folds items = list_all (λ item. knows_call folds item.call) items
+
+-- whether there is such a table, and it has a room
+abbrev pub is_placed : List Asked → Option ℕ → Bool
+is_placed rooms None = false
+is_placed rooms (Some table) = has_room rooms table
+
+-- a command names tables with a room, and folds that were handed in
+abbrev pub name_fault : Catalog → List Word → ReadState → SaidTree → Option ScriptKind
+name_fault catalog folds state (room table slots) = None
+name_fault catalog folds state (load table file) = fault_where (not (has_room state.rooms table)) Name
+name_fault catalog folds state (query tree) =
+    fault_where (not (is_placed state.rooms (table_named catalog tree.table) && knows_folds folds tree.items)) Name
+name_fault catalog folds state (compact table) = fault_where (not (has_room state.rooms table)) Name
+name_fault catalog folds state (stat table) = fault_where (not (has_room state.rooms table)) Name
+
+-- the kind of a line that says this, in the order in which the kinds are tested
+abbrev pub said_fault : Catalog → List Word → ReadState → SaidTree → Option ScriptKind
+said_fault catalog folds state said = option_or (room_fault catalog state said) (name_fault catalog folds state said)
+
+-- what a line that says this gives: its kind, or what was read with it
+abbrev pub taken : Catalog → ReadState → ℕ → SaidTree → Option ScriptKind → Result ReadState ScriptKind
+taken catalog state line said None = Ok (after catalog state line said)
+taken catalog state line said (Some kind) = Err kind
+
+-- What a line gives: the state behind it, or the first kind of refusal that applies to it.
+pub data LineGives : Catalog → List Word → ReadState → ℕ → List ℕ → Result ReadState ScriptKind → Type 0 where
+  passed_over : {catalog : Catalog} {folds : List Word} {state : ReadState} {number : ℕ} {line : List ℕ} {given : Result ReadState ScriptKind}
+      → IsPassedOver line → given ≡ Ok state → LineGives catalog folds state number line given
+  no_text : {catalog : Catalog} {folds : List Word} {state : ReadState} {number : ℕ} {line : List ℕ} {given : Result ReadState ScriptKind}
+      → ¬ IsText line → given ≡ Err Grammar → LineGives catalog folds state number line given
+  no_command : {catalog : Catalog} {folds : List Word} {state : ReadState} {number : ℕ} {line : List ℕ} {given : Result ReadState ScriptKind}
+      → Counts line → ((said : SaidTree) → ¬ LineSays catalog line said) → given ≡ Err Grammar → LineGives catalog folds state number line given
+  command : {catalog : Catalog} {folds : List Word} {state : ReadState} {number : ℕ} {line : List ℕ} {given : Result ReadState ScriptKind} (said : SaidTree)
+      → Counts line → LineSays catalog line said → given ≡ taken catalog state number said (said_fault catalog folds state said)
+      → LineGives catalog folds state number line given
+
+-- what the answer to a line says that it gives: the state behind it, or its kind
+abbrev pub line_answer : Option ScriptKind → ReadState → Result ReadState ScriptKind
+line_answer None next = Ok next
+line_answer (Some kind) next = Err kind

@@ -1,0 +1,31 @@
+//! What was read of a script.
+ghost use Rattle.std.specs.Prelude.{◌≤◌, length};
+ghost use Rattle.smc_shape.specs.declared.shape.TheConstants.{MAX_COLLS};
+
+use crate::script::Part;
+
+/// Whether rooms may still be asked for.
+#[derive(Clone, Copy, Debug, PartialEq, Eq)]
+pub enum Phase {
+    /// No command was read.
+    Asking,
+    /// A command was read.
+    Doing,
+}
+
+/// A room that was asked for.
+#[derive(Clone, Copy, Debug, PartialEq, Eq)]
+pub struct Asked {
+    pub table: u32,
+    pub slots: u32,
+}
+
+/// What was read of a script. What it shows is the `ReadState` of `reading`.
+#[derive(Drop)]
+pub struct Reader {
+    pub phase: Phase,
+    /// In the order of the tables' numbers.
+    pub rooms: Vec<Asked>,
+    pub parts: Vec<Part>,
+    ghost few: { length rooms.items ≤ MAX_COLLS },
+}
