@@ -3,3 +3,5 @@ mod StateLaws
 mod ScriptLaws
 mod SoundLaws
 mod PlacedLaws
+mod OneLaws
+mod SomeLaws

@@ -1,5 +1,5 @@
 -- A script that was read is sound.
-use Rattle.std.proofs.Common.{◌≡◌, ◌≤◌, arith, ℕ, ◌+◌, List, [], ◌∷◌, ◌⊎◌, inl, inr, map, length, Bool, false, Option, None, Some, Ok, Err, refl, sym, ap, ◌∙◌, subst}
+use Rattle.std.proofs.Common.{◌≡◌, ◌≤◌, arith, ℕ, ◌+◌, List, [], ◌∷◌, inl, inr, map, length, Option, None, Some, Ok, Err, refl, sym, ap, ◌∙◌, subst}
 use Rattle.std.proofs.lemmas.List.{length-map}
 use Rattle.std.proofs.lemmas.Simd.{map-map}
 use Rattle.std.specs.declared.result.Result.{Result}
@@ -15,9 +15,9 @@ use Rattle.smc_shape.specs.declared.shape.TheConstants.{MAX_PASSES}
 use Rattle.smc_types.specs.declared.catalog.Catalog.{Catalog}
 use Rattle.smc_script.specs.Faults.{LineGives, passed_over, no_text, no_command, command, has_room, is_doing, is_too_large, room_fault, name_fault, said_fault, taken}
 use Rattle.smc_script.specs.Says.{SaidTree, room, load, query, compact, stat}
-use Rattle.smc_script.specs.Scripts.{Answers, GoesOn, LinesGive, Outcome}
+use Rattle.smc_script.specs.Scripts.{Answers, LinesGive, Outcome}
 use Rattle.smc_script.specs.Sound.{IsPlaced, IsSound, Opens, coll_of_room}
-use Rattle.smc_script.specs.States.{ReadState, after, colls_of, coll_asked, placed, script_of, start, with_room}
+use Rattle.smc_script.specs.States.{ReadState, after, colls_of, placed, script_of, start, with_room}
 use Rattle.smc_script.specs.Trees.{ScriptTree, script_tree}
 use Rattle.smc_script.specs.declared.fault.ScriptFault.{ScriptFault}
 use Rattle.smc_script.specs.declared.fault.ScriptKind.{ScriptKind}

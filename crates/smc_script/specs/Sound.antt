@@ -5,13 +5,11 @@ use Rattle.smc_shape.specs.Faults.{fault_of}
 use Rattle.smc_shape.specs.declared.coll.CollShape.{CollShape}
 use Rattle.smc_shape.specs.declared.shape.TheConstants.{MAX_PASSES}
 use Rattle.smc_types.specs.declared.catalog.Catalog.{Catalog}
-use Rattle.smc_script.specs.States.{colls_of}
 use Rattle.smc_script.specs.Tables.{table_width}
 use Rattle.smc_script.specs.Trees.{CommandTree, PartTree, load, add, get, remove, set, delete, update, query, compact, stat, drop_fold, one, group, part_tree}
 use Rattle.smc_script.specs.declared.script.Place.{Place}
 use Rattle.smc_script.specs.declared.script.Room.{Room}
 use Rattle.smc_script.specs.declared.script.Script.{Script}
-use Rattle.smc_script.specs.declared.state.Asked.{Asked}
 
 -- the collection of a room
 abbrev pub coll_of_room : Catalog → Room → CollShape
