@@ -2,3 +2,6 @@ mod SaysLaws
 mod StateLaws
 mod ScriptLaws
 mod SoundLaws
+mod PlacedLaws
+mod OneLaws
+mod SomeLaws

@@ -1,18 +1,18 @@
 -- What lines say, and how it is read from them.
-use Rattle.std.proofs.Common.{◌≡◌, ◌≢◌, ℕ, List, [], ◌∷◌, ◌⊎◌, inl, inr, codes, length, Bool, false, Option, None, Some, refl, sym, ap, ◌∙◌, subst, arith}
+use Rattle.std.proofs.Common.{◌≡◌, ◌≢◌, ℕ, List, [], ◌∷◌, inl, inr, codes, length, false, Option, None, Some, refl, sym, ap, ◌∙◌, subst, arith}
 use Rattle.std.specs.Option.{option_map}
 use Rattle.std.specs.Prelude.{◌≤◌, nat_eq, IfOk, Ok, Err}
 use Rattle.std.specs.declared.result.Result.{Result}
 use Rattle.std.proofs.lemmas.List.Splits.{join_with_byte-slice_split, length-slice_split}
 use Rattle.std.specs.List.{join_with_byte}
-use Rattle.smc_lines.specs.Words.{words, words_left}
+use Rattle.smc_lines.specs.Words.{words}
 use Rattle.smc_lines.specs.declared.limits.TheConstants.{SPACE}
 use Rattle.smc_lang.specs.Laws.{IsOneThing, read, wrong, deep}
 use Rattle.smc_lang.specs.Texts.{IsFaultOf, ReadsText}
 use Rattle.smc_lang.specs.declared.fault.ParseFault.{ParseFault}
 use Rattle.smc_lang.specs.declared.fault.ParseFault.TheVariants.{TooLong, TooDeep, At, NoMemory}
 use Rattle.smc_lang.specs.declared.limits.TheConstants.{MAX_TEXT}
-use Rattle.smc_query.specs.Trees.{QueryTree, a_query, query_text, query_tree}
+use Rattle.smc_query.specs.Trees.{a_query, query_text, query_tree}
 use Rattle.smc_query.specs.declared.query.Query.{Query}
 use Rattle.smc_types.specs.declared.catalog.Catalog.{Catalog}
 use Rattle.smc_script.specs.Says.{SaidTree, LineSays, IsSaid, IsSaidBehind, IsQueryRead, is_memory, said_tree, words_said}
@@ -32,7 +32,7 @@ words-some text none =
     omega arith
 
 -- the later words of two equal lists
-abbrev later : List (List ℕ) → List (List ℕ)
+abbrev pub later : List (List ℕ) → List (List ℕ)
 later [] = []
 later (word ∷ words') = words'
 
@@ -41,7 +41,7 @@ pub none-behind : (line verb : List ℕ) → words line ≡ verb ∷ [] → (tex
 none-behind line verb is text same = words-some text (ap later (sym same ∙ is))
 
 -- the text behind the word `query` is the only one
-text-one : (line text other : List ℕ) → words line ≡ codes "query" ∷ words text → words line ≡ codes "query" ∷ words other → text ≡ other
+pub text-one : (line text other : List ℕ) → words line ≡ codes "query" ∷ words text → words line ≡ codes "query" ∷ words other → text ≡ other
 text-one line text other is same = words-one text other (ap later (sym is ∙ same))
 
 -- where the text behind the word `query` is no query the line says nothing

@@ -1,10 +1,10 @@
 -- What lines give, one after the other.
-use Rattle.std.proofs.Common.{◌≡◌, ℕ, ◌+◌, List, [], ◌∷◌, ◌++◌, ◌⊎◌, inl, inr, length, Option, None, Some, Ok, Err, refl, sym, ap, ◌∙◌, subst, arith}
+use Rattle.std.proofs.Common.{◌≡◌, ℕ, ◌+◌, List, [], ◌∷◌, ◌++◌, inl, inr, length, Option, None, Some, Ok, Err, refl, sym, ap, ◌∙◌, subst, arith}
 use Rattle.std.proofs.lemmas.List.Elements.{All-head, All-tail}
 use Rattle.std.specs.List.{All}
 use Rattle.std.specs.Prelude.{IfErr, IfOk}
 use Rattle.std.specs.declared.result.Result.{Result}
-use Rattle.smc_lines.specs.Ahead.{Counts, Gives, IsPassedOver, IsText, PassesOver, Takes, TakesNext}
+use Rattle.smc_lines.specs.Ahead.{Counts, Gives, IsPassedOver, PassesOver, Takes}
 use Rattle.smc_lines.specs.Reading.{PassesLimit, Reads, UnlessMemory}
 use Rattle.smc_lines.specs.Rest.{Rest}
 use Rattle.smc_lines.specs.declared.fault.LinesFault.{LinesFault}

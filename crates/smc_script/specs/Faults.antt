@@ -1,10 +1,10 @@
 -- The kind of refusal of a line, by what stands before it.
-use Rattle.std.specs.Prelude.{◌≡◌, ℕ, Bool, true, false, not, is_some, ◌&&◌, ◌||◌, if◌then◌else◌, List, [], ◌∷◌, Option, Some, None, Result, Ok, Err}
+use Rattle.std.specs.Prelude.{◌≡◌, ℕ, Bool, true, false, not, is_some, ◌&&◌, ◌||◌, if◌then◌else◌, List, Option, Some, None, Result, Ok, Err}
 use Rattle.std.specs.List.{list_all, list_any}
 use Rattle.std.specs.Option.{option_or}
 use Rattle.std.specs.Str.{bytes_eq}
 use Rattle.smc_lines.specs.Ahead.{Counts, IsPassedOver, IsText}
-use Rattle.smc_query.specs.Trees.{Word, QueryTree, ItemTree, CallTree, count, aggregate, fold}
+use Rattle.smc_query.specs.Trees.{Word, ItemTree, CallTree, count, aggregate, fold}
 use Rattle.smc_shape.specs.Faults.{fault_of}
 use Rattle.smc_shape.specs.declared.shape.TheConstants.{MAX_PASSES}
 use Rattle.smc_types.specs.declared.catalog.Catalog.{Catalog}

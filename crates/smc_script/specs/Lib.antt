@@ -5,3 +5,4 @@ pub mod States
 pub mod Faults
 pub mod Scripts
 pub mod Sound
+pub mod Laws

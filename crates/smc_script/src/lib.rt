@@ -2,16 +2,19 @@
 //!
 //! `read` has the call, `state` keeps what was read, `reader` takes one more line, and `said` reads what a line says whatever
 //! went before it; `table` finds the tables that it names. `script` has a script and its parts, `command` the commands,
-//! `name` the names in them, `fault` says why a script is refused, and `limits` how much it may ask for. Below stand
-//! `smc_lines`, which reads the lines, `smc_lang` for the text of queries, `smc_types` with the tables that there are,
-//! and `smc_shape`, which knows the regions; above, the crates that run commands.
+//! `name` the names in them, `fault` says why a script is refused, `limits` how much it may ask for, and `laws` that each
+//! text is exactly one of a script and a first refused line. Below stand `smc_lines`, which reads the lines, `smc_lang`
+//! for the text of queries, `smc_types` with the tables that there are, and `smc_shape`, which knows the regions; above,
+//! the crates that run commands.
 //!
 //! What a line says is defined in `specs/Says.antt`, what stands before a line in `States.antt`, the kind of refusal of a
-//! line in `Faults.antt`, and what a whole text gives in `Scripts.antt`, over the trees of `Trees.antt`.
+//! line in `Faults.antt`, what a whole text gives in `Scripts.antt`, over the trees of `Trees.antt`, and what holds of every
+//! script that was read in `Sound.antt`.
 #![tactic(auto)]
 
 mod command;
 mod fault;
+pub mod laws;
 mod limits;
 mod name;
 mod read;

@@ -110,3 +110,54 @@ pub fn read_script<S: Source>(
     };
     script_of_lines(alloc, catalog, folds, &lines)
 }
+
+#[cfg(test)]
+mod tests {
+    use super::*;
+    use smc_outside::MemSource;
+    use smc_types::tpch;
+    use std::test::Fail;
+
+    // The first refused line of a text and its kind, where it has one.
+    fn refused(alloc: Global, text: &[u8]) -> Result<Option<ScriptFault>, Fail> {
+        let mut source = MemSource::new(text.to_vec(alloc)?, 9, Vec::new(alloc));
+        let catalog = tpch(alloc)?;
+        Ok(read_script(alloc, &mut source, &catalog, FoldNames::of(Vec::new(alloc))).err())
+    }
+
+    #[test]
+    fn the_first_refused_line_has_its_first_kind(rt: HostRuntime) -> Result<(), Fail> {
+        let cases = [
+            (b"".as_slice(), None),
+            (
+                b"# x\n\nroom region 1\nload region r.tbl\nstat region\n",
+                None,
+            ),
+            (b"room region 268435457\n", Some((1, ScriptKind::Room))),
+            (b"room region 0\n", Some((1, ScriptKind::Room))),
+            (
+                b"room region 64\nroom region 64\n",
+                Some((2, ScriptKind::Room)),
+            ),
+            (b"room lineitem 8388608\n", Some((1, ScriptKind::Room))),
+            (
+                b"room region 64\nstat region\nroom part 64\n",
+                Some((3, ScriptKind::Room)),
+            ),
+            (b"stat region\n", Some((1, ScriptKind::Name))),
+            (
+                b"room region 64\nquery from regions show count()\n",
+                Some((2, ScriptKind::Name)),
+            ),
+            (b"room region 64\nquery from region show count()\n", None),
+            (b"frob\n", Some((1, ScriptKind::Grammar))),
+            (b"room region  64\n", Some((1, ScriptKind::Grammar))),
+            (b"\xff\n", Some((1, ScriptKind::Grammar))),
+        ];
+        for (text, fault) in cases {
+            let fault = fault.map(|(line, kind)| ScriptFault::Bad { line, kind });
+            assert_eq!(rt; refused(rt.alloc(), text)?, fault, "at {text:?}");
+        }
+        Ok(())
+    }
+}

@@ -1,4 +1,4 @@
-use Rattle.std.proofs.Common.{◌≡◌, ◌≢◌, ℕ, List, ◌∷◌, codes, Option, None, Some}
+use Rattle.std.proofs.Common.{◌≡◌, ◌≢◌, ℕ, List, ◌∷◌, codes, None, Some}
 use Rattle.std.specs.Option.{option_copied}
 use Rattle.std.specs.Prelude.{IfNone}
 use Rattle.smc_lines.specs.Words.{words, words_left}

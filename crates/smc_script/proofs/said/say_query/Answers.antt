@@ -1,4 +1,4 @@
-use Rattle.std.proofs.Common.{List, ℕ, Option, sym, subst}
+use Rattle.std.proofs.Common.{Option, sym, subst}
 use Rattle.smc_script.specs.Says.{IsSaid}
 use Rattle.smc_script.specs.declared.said.Said.{Said}
 use Rattle.smc_script.proofs.SaysLaws.{query-said}

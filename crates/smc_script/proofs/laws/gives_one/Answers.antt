@@ -1,0 +1,5 @@
+use Rattle.smc_script.proofs.OneLaws.{gives-one}
+use Rattle.smc_script.proofs.laws.gives_one.Goals as goal
+
+pub returns : goal.returns
+returns c = gives-one c.one_thing.ensures
