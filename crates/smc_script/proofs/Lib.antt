@@ -2,3 +2,4 @@ mod SaysLaws
 mod StateLaws
 mod ScriptLaws
 mod SoundLaws
+mod PlacedLaws

@@ -1,7 +1,9 @@
 -- A script that was read is sound.
-use Rattle.std.proofs.Common.{◌≡◌, ◌≤◌, arith, ℕ, ◌+◌, List, [], ◌∷◌, ◌⊎◌, inl, inr, map, Bool, false, Option, None, Some, Ok, Err, refl, sym, ap, ◌∙◌, subst}
+use Rattle.std.proofs.Common.{◌≡◌, ◌≤◌, arith, ℕ, ◌+◌, List, [], ◌∷◌, ◌⊎◌, inl, inr, map, length, Bool, false, Option, None, Some, Ok, Err, refl, sym, ap, ◌∙◌, subst}
+use Rattle.std.proofs.lemmas.List.{length-map}
 use Rattle.std.proofs.lemmas.Simd.{map-map}
 use Rattle.std.specs.declared.result.Result.{Result}
+use Rattle.std.specs.List.{AllByRecursion}
 use Rattle.std.specs.Option.{option_or}
 use Rattle.std.specs.Prelude.{◌||◌, IfOk}
 use Rattle.smc_query.specs.Trees.{Word}
@@ -14,7 +16,7 @@ use Rattle.smc_types.specs.declared.catalog.Catalog.{Catalog}
 use Rattle.smc_script.specs.Faults.{LineGives, passed_over, no_text, no_command, command, has_room, is_doing, is_too_large, room_fault, name_fault, said_fault, taken}
 use Rattle.smc_script.specs.Says.{SaidTree, room, load, query, compact, stat}
 use Rattle.smc_script.specs.Scripts.{Answers, GoesOn, LinesGive, Outcome}
-use Rattle.smc_script.specs.Sound.{IsSound, Opens, coll_of_room}
+use Rattle.smc_script.specs.Sound.{IsPlaced, IsSound, Opens, coll_of_room}
 use Rattle.smc_script.specs.States.{ReadState, after, colls_of, coll_asked, placed, script_of, start, with_room}
 use Rattle.smc_script.specs.Trees.{ScriptTree, script_tree}
 use Rattle.smc_script.specs.declared.fault.ScriptFault.{ScriptFault}
@@ -22,6 +24,7 @@ use Rattle.smc_script.specs.declared.fault.ScriptKind.{ScriptKind}
 use Rattle.smc_script.specs.declared.fault.ScriptKind.TheVariants.{Room}
 use Rattle.smc_script.specs.declared.script.Script.{Script}
 use Rattle.smc_script.specs.declared.state.Asked.{Asked}
+use Rattle.smc_script.proofs.PlacedLaws.{ArePlaced, after-placed}
 use Rattle.smc_script.proofs.StateLaws.{fault-none, none-last, none-there}
 
 -- the state of an answer, where it has one
@@ -115,8 +118,47 @@ lines-open catalog folds (line ∷ lines) state number script opens (Ok next, gi
     lines-open catalog folds lines next (number + 1) script (line-opens catalog folds state next (number + 1) line (Ok next) opens gives refl) rest
 lines-open catalog folds (line ∷ lines) state number script opens (Err kind, gives, rest) = absurd cc
 
+-- the second of two kinds is none where both are
+second-none : (one other : Option ScriptKind) → option_or one other ≡ None → other ≡ None
+second-none None other is = is
+second-none (Some kind) other is = absurd cc
+
+-- what a line that says this gives has its parts placed
+taken-placed : (catalog : Catalog) (folds : List Word) (state next : ReadState) (line : ℕ) (said : SaidTree) (kind : Option ScriptKind) (given : Result ReadState ScriptKind)
+    → ArePlaced state → said_fault catalog folds state said ≡ kind → given ≡ taken catalog state line said kind → given ≡ Ok next → ArePlaced next
+taken-placed catalog folds state next line said None given all none is same =
+    subst ArePlaced (state-one (after catalog state line said) next given is same)
+    (after-placed catalog folds state line said all (second-none (room_fault catalog state said) (name_fault catalog folds state said) none))
+taken-placed catalog folds state next line said (Some kind) given all none is same = absurd cc
+
+-- a line that is taken leaves the parts placed
+line-placed : (catalog : Catalog) (folds : List Word) (state next : ReadState) (number : ℕ) (line : List ℕ) (given : Result ReadState ScriptKind)
+    → ArePlaced state → LineGives catalog folds state number line given → given ≡ Ok next → ArePlaced next
+line-placed catalog folds state next number line given all (passed_over quiet is) same = subst ArePlaced (state-one state next given is same) all
+line-placed catalog folds state next number line given all (no_text none is) same = absurd cc
+line-placed catalog folds state next number line given all (no_command counts none is) same = absurd cc
+line-placed catalog folds state next number line given all (command said counts says is) same =
+    taken-placed catalog folds state next number said (said_fault catalog folds state said) given all refl is same
+
+-- the parts of a script are placed among its rooms
+abbrev AreFit : ScriptTree → Type 0
+AreFit script = AllByRecursion (IsPlaced (length script.rooms)) script.parts
+
+-- the parts of a script that lines give are placed among its rooms
+lines-placed : (catalog : Catalog) (folds : List Word) (lines : List (List ℕ)) (state : ReadState) (number : ℕ) (script : ScriptTree) → ArePlaced state
+    → LinesGive catalog folds state number lines (Ok script) → AreFit script
+lines-placed catalog folds [] state number script all is =
+    subst AreFit (sym (ap (λ (o : Outcome). script_in o script) is))
+    (subst (λ (n : ℕ). AllByRecursion (IsPlaced n) state.parts) (sym (length-map state.rooms (placed state.rooms))) all)
+lines-placed catalog folds (line ∷ lines) state number script all (Ok next, gives, rest) =
+    lines-placed catalog folds lines next (number + 1) script (line-placed catalog folds state next (number + 1) line (Ok next) all gives refl) rest
+lines-placed catalog folds (line ∷ lines) state number script all (Err kind, gives, rest) = absurd cc
+
 -- a script that was read is sound
 pub answer-sound : (catalog : Catalog) (folds : List Word) (lines : List (List ℕ)) (answer : Result Script ScriptFault)
     → Answers answer (LinesGive catalog folds start 0 lines) → IfOk answer (IsSound catalog)
-answer-sound catalog folds lines (Ok script) gives = record { opens = lines-open catalog folds lines start 0 (script_tree script) (inl refl) gives }
+answer-sound catalog folds lines (Ok script) gives = record {
+  opens = lines-open catalog folds lines start 0 (script_tree script) (inl refl) gives;
+  fits = lines-placed catalog folds lines start 0 (script_tree script) tt gives;
+}
 answer-sound catalog folds lines (Err fault) gives = tt
