@@ -2,6 +2,10 @@
 use Rattle.std.specs.Prelude.{ℕ, None}
 use Rattle.smc_tbl.specs.declared.fault.TblFault.{TblFault}
 use Rattle.smc_tbl.specs.declared.fault.TblFault.TheVariants as fault
+use Rattle.smc_script.specs.declared.fault.ScriptFault.{ScriptFault}
+use Rattle.smc_script.specs.declared.fault.ScriptFault.TheVariants as script
+use Rattle.smc_desk.specs.declared.alone.RunEnd.{RunEnd}
+use Rattle.smc_desk.specs.declared.alone.RunEnd.TheVariants as run
 use Rattle.smc_run.specs.declared.status.Status.{Status}
 use Rattle.smc_run.specs.declared.status.Status.TheVariants.{Done, BadWords, BadScript, BadTable, ReadFault, WriteFault, NoMemory}
 
@@ -20,3 +24,15 @@ abbrev pub status_of : TblFault → ℕ → Status
 status_of fault.ReadFault line = ReadFault
 status_of fault.NoMemory line = NoMemory
 status_of _ line = BadTable None line
+
+-- the status where there is no script
+abbrev pub refused_at : ScriptFault → Status
+refused_at script.ReadFault = ReadFault
+refused_at (script.Bad line kind) = BadScript line
+refused_at script.NoMemory = NoMemory
+
+-- the status where a script that was run ends so
+abbrev pub status_of_run : RunEnd → Status
+status_of_run run.Done = Done
+status_of_run run.WriteFault = WriteFault
+status_of_run run.NoMemory = NoMemory

@@ -1,11 +1,14 @@
 //! `smc`: the program. Its words say what it does; it reads standard input and writes standard output.
 //!
 //! `top` does all of it over any source and sink: `tally` reads a table and tells how many rows it has, `play` plays a
-//! schedule on the machine, and `status` says how the program ends. Nothing stands on it. Here only the real input and
-//! output are made; `specs/Tally.antt` and `specs/Play.antt` define what is read and written.
+//! schedule on the machine, and `script` reads a script and runs it on a region of its own; `ended` and `status` say how the
+//! program ends. Nothing stands on it. Here only the real input and output are made; `specs/Tally.antt`, `Play.antt` and
+//! `Inputs.antt` define what is read and written.
 #![tactic(auto)]
 
+pub mod ended;
 pub mod play;
+pub mod script;
 pub mod status;
 pub mod tally;
 pub mod top;
@@ -35,7 +38,7 @@ fn main(rt: HostRuntime) -> ExitCode {
     let mut input = StdSource::new(rt.reader());
     let mut out = StdSink::new(io::writer(&rt));
     let status = match words(&rt) {
-        Ok(words) => top(rt.alloc(), &words, &mut input, &mut out),
+        Ok(words) => top(rt.alloc(), &words, &mut input, &mut out).into_status(),
         Err(status) => status,
     };
     if !matches!(status, Status::Done) {

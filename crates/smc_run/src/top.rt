@@ -1,12 +1,15 @@
 ghost use Rattle.std.specs.Prelude.{◌≡◌, ◌≤◌, ◌-◌, ◌↔◌, true, false, None, IfSome, IfNone, IsSome, slice_get};
 ghost use Rattle.smc_outside.specs.Causes.{Rose};
 ghost use Rattle.smc_run.specs.Play.{PlaysAs};
+ghost use Rattle.smc_run.specs.Inputs.{IsLawful, RunEnds};
 ghost use Rattle.smc_run.specs.Tally.{ReadsToEnd, TallyEnds};
-ghost use Rattle.smc_run.specs.Words.{plays, table_named, tallied};
+ghost use Rattle.smc_run.specs.Words.{plays, runs, table_named, tallied};
 ghost use Rattle.smc_types.specs.Tables.{the_tables};
 ghost use Rattle.smc_types.specs.declared.catalog.TheConstants.{TABLE_COUNT};
 
+use crate::ended::Ended;
 use crate::play::play;
+use crate::script;
 use crate::status::Status;
 use crate::tally::tally;
 use smc_outside::{Sink, Source};
@@ -58,27 +61,40 @@ fn asks_play(words: &[String]) -> bool
     }
 }
 
+// Whether the words ask that a script is run.
+fn asks_run(words: &[String]) -> bool
+    ensures { result ≡ runs words.now }
+{
+    match words {
+        [command] => command.as_str() == "run",
+        _ => false,
+    }
+}
+
 /// All that the program does: what its words ask for, or `BadWords` before anything is read.
-pub fn top<I: Source, O: Sink>(
-    alloc: Global,
-    words: &[String],
-    input: &mut I,
-    out: &mut O,
-) -> Status
-    ensures words { (result ≡ Status.BadWords) ↔ ((tallied words.now ≡ None) × (plays words.now ≡ false)) }
-    ensures untouched { result ≡ Status.BadWords → (input.new ≡ input.old) × (out.new ≡ out.old) }
-    ensures ends { IfSome (tallied words.now) (λ schema. TallyEnds schema result (I.left input.old) (O.held out.old) (O.held out.new)) }
-    ensures played { plays words.now ≡ true → PlaysAs result (I.left input.old) (O.held out.old) (O.held out.new) }
-    ensures read { ReadsToEnd result (I.left input.old) (I.left input.new) }
-    ensures input_cause { result ≡ Status.ReadFault → Rose (I.faults input.old) (I.faults input.new) }
-    ensures out_cause { result ≡ Status.WriteFault → Rose (O.faults out.old) (O.faults out.new) }
+///
+/// Where a script with rooms was run, its region is handed back, closed with its pass, unless memory was refused.
+pub fn top<I: Source, O: Sink>(alloc: Global, words: &[String], input: &mut I, out: &mut O) -> Ended
+    ensures words { (result.status ≡ Status.BadWords) ↔ ((tallied words.now ≡ None) × (plays words.now ≡ false) × (runs words.now ≡ false)) }
+    ensures untouched { result.status ≡ Status.BadWords → (input.new ≡ input.old) × (out.new ≡ out.old) }
+    ensures ends { IfSome (tallied words.now) (λ schema. TallyEnds schema result.status (I.left input.old) (O.held out.old) (O.held out.new)) }
+    ensures played { plays words.now ≡ true → PlaysAs result.status (I.left input.old) (O.held out.old) (O.held out.new) }
+    ensures ran { runs words.now ≡ true → RunEnds result.status (I.left input.old) result.quiet (O.held out.old) (O.held out.new) }
+    ensures lawful { IfSome result.quiet IsLawful }
+    ensures quiet { runs words.now ≡ false → result.quiet ≡ None }
+    ensures read { ReadsToEnd result.status (I.left input.old) (I.left input.new) }
+    ensures input_cause { result.status ≡ Status.ReadFault → Rose (I.faults input.old) (I.faults input.new) }
+    ensures out_cause { result.status ≡ Status.WriteFault → Rose (O.faults out.old) (O.faults out.new) }
 {
     if asks_play(words) {
-        return play(alloc, input, out);
+        return Ended::at(play(alloc, input, out));
+    }
+    if asks_run(words) {
+        return script::run(alloc, input, out);
     }
     match table_asked(words) {
-        Some(table) => tally(alloc, table, input, out),
-        None => Status::BadWords,
+        Some(table) => Ended::at(tally(alloc, table, input, out)),
+        None => Ended::at(Status::BadWords),
     }
 }
 
@@ -104,7 +120,7 @@ mod tests {
         }
         let mut input = MemSource::new(text.as_bytes().to_vec(alloc)?, 9, reads.to_vec(alloc)?);
         let mut out = MemSink::new(alloc, space, 5, writes.to_vec(alloc)?)?;
-        let status = top(alloc, &list, &mut input, &mut out);
+        let status = top(alloc, &list, &mut input, &mut out).into_status();
         Ok((format!(in alloc; "{status}")?, out.bytes().to_vec(alloc)?))
     }
 

@@ -1,0 +1,81 @@
+//! The script on the input is read, and run.
+ghost use Rattle.std.specs.Prelude.{◌≡◌, ◌≢◌, ◌≤◌, IfSome};
+ghost use Rattle.smc_outside.specs.Causes.{Rose};
+ghost use Rattle.smc_types.specs.Tables.{the_tables};
+ghost use Rattle.smc_script.specs.Sound.{IsSound};
+ghost use Rattle.smc_script.specs.Trees.{script_tree};
+ghost use Rattle.smc_run.specs.Ending.{refused_at, status_of_run};
+ghost use Rattle.smc_run.specs.Inputs.{IsLawful, RunEnds, RunsKnown};
+ghost use Rattle.smc_run.specs.Tally.{ReadsToEnd};
+
+use crate::ended::Ended;
+use crate::status::Status;
+use smc_desk::{Ran, RunEnd, run_alone, unknown_line};
+use smc_history::laws::what_happened_is_lawful;
+use smc_outside::{Sink, Source};
+use smc_script::{FoldNames, Script, ScriptFault, read_script};
+use smc_types::tpch;
+use std::alloc::Global;
+
+// How the program ends where there is no script.
+fn refused_at(fault: ScriptFault) -> Status
+    ensures { result ≡ refused_at fault }
+{
+    match fault {
+        ScriptFault::ReadFault => Status::ReadFault,
+        ScriptFault::Bad { line, .. } => Status::BadScript { line },
+        ScriptFault::NoMemory => Status::NoMemory,
+    }
+}
+
+// How the program ends where its script ends so.
+fn status_of_run(end: RunEnd) -> Status
+    ensures { result ≡ status_of_run end }
+{
+    match end {
+        RunEnd::Done => Status::Done,
+        RunEnd::WriteFault => Status::WriteFault,
+        RunEnd::NoMemory => Status::NoMemory,
+    }
+}
+
+// Runs a script, if all its commands are run; else refuses it at the first that is not.
+fn run_known<O: Sink>(alloc: Global, script: &Script, out: &mut O) -> Ended
+    requires { IsSound the_tables script.now }
+    ensures ends { RunsKnown result.status (script_tree script.now) result.quiet (O.held out.old) (O.held out.new) }
+    ensures lawful { IfSome result.quiet IsLawful }
+    ensures cause { result.status ≡ Status.WriteFault → Rose (O.faults out.old) (O.faults out.new) }
+    ensures later { O.faults out.old ≤ O.faults out.new }
+{
+    // Up to its closing a region has come through lawful steps.
+    what_happened_is_lawful();
+    match unknown_line(script.parts.as_slice()) {
+        Some(line) => Ended::at(Status::BadScript { line }),
+        None => {
+            let Ran { end, quiet } = run_alone(alloc, script, out);
+            Ended {
+                status: status_of_run(end),
+                quiet,
+            }
+        }
+    }
+}
+
+/// Runs the script of the input. Nothing is written before the input was read to its end.
+pub fn run<I: Source, O: Sink>(alloc: Global, input: &mut I, out: &mut O) -> Ended
+    ensures ends { RunEnds result.status (I.left input.old) result.quiet (O.held out.old) (O.held out.new) }
+    ensures lawful { IfSome result.quiet IsLawful }
+    ensures asked { result.status ≢ Status.BadWords }
+    ensures read { ReadsToEnd result.status (I.left input.old) (I.left input.new) }
+    ensures input_cause { result.status ≡ Status.ReadFault → Rose (I.faults input.old) (I.faults input.new) }
+    ensures out_cause { result.status ≡ Status.WriteFault → Rose (O.faults out.old) (O.faults out.new) }
+{
+    let Ok(catalog) = tpch(alloc) else {
+        return Ended::at(Status::NoMemory);
+    };
+    let folds = FoldNames::of(Vec::new(alloc));
+    match read_script(alloc, input, &catalog, folds) {
+        Ok(script) => run_known(alloc, &script, out),
+        Err(fault) => Ended::at(refused_at(fault)),
+    }
+}
