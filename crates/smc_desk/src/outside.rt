@@ -1,12 +1,14 @@
 //! A command outside a group.
-ghost use Rattle.std.specs.Prelude.{◌≡◌, ◌<◌, true, IfOk, length};
+ghost use Rattle.std.specs.Prelude.{◌≡◌, ◌<◌, true, IfOk, length, map};
 ghost use Rattle.smc_region.specs.Callers.{IsPassOf, IsSame};
 ghost use Rattle.smc_does.specs.Does.{DoesSome, OwnsNone};
+ghost use Rattle.smc_query.specs.Trees.{item_tree, query_tree};
 ghost use Rattle.smc_script.specs.Trees.{command_tree};
-ghost use Rattle.smc_replies.specs.Commands.{IsInRegion, RunsCommand, Stats, is_known};
+ghost use Rattle.smc_replies.specs.Commands.{Counts, IsInRegion, RunsCommand, count_row, counts_all, is_known, objects_line, shows_count};
 
-use crate::reply::{Reply, objects_line};
+use crate::reply::{Reply, count_row, objects_line};
 use smc_objects::count_objects;
+use smc_query::{Item, ItemCall, Query};
 use smc_region::{Pass, Region};
 use smc_script::Command;
 use smc_words::NoMemory;
@@ -16,11 +18,22 @@ use std::alloc::Global;
 fn stat(alloc: Global, coll: u8, pass: Pass, region: &Region) -> (Pass, Result<Reply, NoMemory>)
     requires here { IsPassOf region.now pass }
     requires coll { coll < length region.now.about.shape.colls }
-    ensures done { IfOk result.1 (λ reply. DoesSome pass result.0 (λ calls. Stats coll calls reply)) }
+    ensures done { IfOk result.1 (λ reply. DoesSome pass result.0 (λ calls. Counts objects_line coll calls reply)) }
     ensures home { IsSame pass result.0 × (OwnsNone pass → OwnsNone result.0) }
 {
     let (pass, count) = count_objects(pass, region, coll);
     (pass, objects_line(alloc, count))
+}
+
+/// Answers a query for the number of a table's rows, by the same calls.
+fn count(alloc: Global, coll: u8, pass: Pass, region: &Region) -> (Pass, Result<Reply, NoMemory>)
+    requires here { IsPassOf region.now pass }
+    requires coll { coll < length region.now.about.shape.colls }
+    ensures done { IfOk result.1 (λ reply. DoesSome pass result.0 (λ calls. Counts count_row coll calls reply)) }
+    ensures home { IsSame pass result.0 × (OwnsNone pass → OwnsNone result.0) }
+{
+    let (pass, count) = count_objects(pass, region, coll);
+    (pass, count_row(alloc, count))
 }
 
 /// Runs one command outside a group. Answers its reply.
@@ -41,13 +54,39 @@ pub fn one(
 {
     match c {
         Command::Stat { place } => stat(alloc, place.coll, pass, region),
+        Command::Query { place, .. } => count(alloc, place.coll, pass, region),
         _ => unreachable!(),
     }
+}
+
+// Whether `count()`, without a label, is the only column.
+fn shows_count(items: &[Item]) -> bool
+    ensures { result ≡ shows_count (map item_tree items.now) }
+{
+    match items {
+        [item] => matches!(item.call, ItemCall::Count) && item.label.is_none(),
+        _ => false,
+    }
+}
+
+// Whether the query asks how many rows its table has, and for nothing else.
+fn counts_all(query: &Query) -> bool
+    ensures { result ≡ counts_all (query_tree query.now) }
+{
+    query.filter.is_none()
+        && query.by.as_slice().is_empty()
+        && shows_count(query.items.as_slice())
+        && query.sort.as_slice().is_empty()
+        && query.first.is_none()
 }
 
 /// Whether the command is one that `one` runs.
 pub fn is_known(c: &Command) -> bool
     ensures { result ≡ is_known (command_tree c.now) }
 {
-    matches!(c, Command::Stat { .. })
+    match c {
+        Command::Stat { .. } => true,
+        Command::Query { query, .. } => counts_all(query),
+        _ => false,
+    }
 }

@@ -1,6 +1,6 @@
 //! The reply to a command.
 ghost use Rattle.std.specs.Prelude.{◌≡◌, IfOk};
-ghost use Rattle.smc_replies.specs.Commands.{objects_line};
+ghost use Rattle.smc_replies.specs.Commands.{count_row, objects_line};
 
 use smc_words::NoMemory;
 use std::alloc::Global;
@@ -35,5 +35,14 @@ pub(crate) fn objects_line(alloc: Global, count: u64) -> Result<Reply, NoMemory>
 {
     Ok(Reply {
         text: format!(in alloc; "objects {count}\n")?,
+    })
+}
+
+/// An answer of one row, which says how many rows the query has met.
+pub(crate) fn count_row(alloc: Global, count: u64) -> Result<Reply, NoMemory>
+    ensures { IfOk result (λ reply. reply ≡ count_row count) }
+{
+    Ok(Reply {
+        text: format!(in alloc; "rows 1\n{count}\n")?,
     })
 }

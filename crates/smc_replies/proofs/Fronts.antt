@@ -7,7 +7,7 @@ use Rattle.smc_core.specs.declared.local.Held.{Held}
 use Rattle.smc_trace.specs.Named.{begins, comes_to, enters, leaves}
 use Rattle.smc_trace.specs.Trace.{CallEnd}
 use Rattle.smc_objects.specs.Alone.{CountsObjects, InSection, visits_all}
-use Rattle.smc_replies.specs.Commands.{Stats, objects_line}
+use Rattle.smc_replies.specs.Commands.{Counts}
 use Rattle.smc_replies.specs.Laws.{IsOnePart}
 
 -- the first of two equal lists of calls have one answer, and one event
@@ -98,13 +98,13 @@ scans-front coll count count' first other rest behind one two same =
     let read = whole-front one.epoch two.epoch one.holds.scan two.holds.scan coll one.holds.visits two.holds.visits rest behind is in
     record { calls = f ∙ read.calls ∙ sym o; later = read.later; visits = read.visits }
 
-pub stat-one : (coll : ℕ) (first other rest behind : List CallEnd) (text said : List ℕ) → Stats coll first text → Stats coll other said → first ++ rest ≡ other ++ behind
+pub counts-one : (line : ℕ → List ℕ) (coll : ℕ) (first other rest behind : List CallEnd) (text said : List ℕ) → Counts line coll first text → Counts line coll other said → first ++ rest ≡ other ++ behind
     → IsOnePart first other rest behind text said
-stat-one coll first other rest behind text said one two same =
+counts-one line coll first other rest behind text said one two same =
     let read = scans-front coll one.count two.count first other rest behind one.counts two.counts same in
     let many : one.count ≡ two.count = sym one.counts.holds.counted ∙ ap (λ (m : List Held). length m) read.visits ∙ two.counts.holds.counted in
     record {
       calls = read.calls;
       later = read.later;
-      reply = one.reply ∙ ap objects_line many ∙ sym two.reply;
+      reply = one.reply ∙ ap line many ∙ sym two.reply;
     }

@@ -1,32 +1,55 @@
 -- What each command does, and what it replies.
-use Rattle.std.specs.Prelude.{◌≡◌, ℕ, ◌<◌, Bool, true, false, List, ◌++◌, length, codes}
+use Rattle.std.specs.Prelude.{◌≡◌, ℕ, ◌<◌, Bool, true, false, is_none, ◌==◌, ◌&&◌, List, [], ◌∷◌, ◌++◌, length, codes}
 use Rattle.std.specs.Fmt.{decimal}
 use Rattle.smc_shape.specs.Layout.{Layout}
 use Rattle.smc_trace.specs.Trace.{CallEnd}
 use Rattle.smc_objects.specs.Alone.{CountsObjects, InSection}
-use Rattle.smc_script.specs.Trees.{CommandTree, stat}
+use Rattle.smc_query.specs.Trees as trees
+use Rattle.smc_query.specs.Trees.{CallTree, ItemTree, QueryTree}
+use Rattle.smc_script.specs.Trees.{CommandTree, query, stat}
 
 -- the line that says how many objects there are
 abbrev pub objects_line : ℕ → List ℕ
 objects_line count = codes "objects " ++ decimal count ++ codes "\n"
 
--- `stat`: one scan of the collection, in a section of its own, counts its objects
-pub record Stats (coll : ℕ) (calls : List CallEnd) (text : List ℕ) : Type 0 where
+-- an answer of one row, which says how many rows the query has met
+abbrev pub count_row : ℕ → List ℕ
+count_row count = codes "rows 1\n" ++ decimal count ++ codes "\n"
+
+-- one scan of the collection, in a section of its own, counts its objects, and this is said of their number
+pub record Counts (said : ℕ → List ℕ) (coll : ℕ) (calls : List CallEnd) (text : List ℕ) : Type 0 where
   pub count : ℕ
   pub counts : InSection (CountsObjects coll count) calls
-  pub reply : text ≡ objects_line count
+  pub reply : text ≡ said count
+
+-- whether a column counts rows
+abbrev pub is_count : CallTree → Bool
+is_count trees.count = true
+is_count call = false
+
+-- whether `count()`, without a label, is the only column
+abbrev pub shows_count : List ItemTree → Bool
+shows_count (item ∷ []) = is_count item.call && is_none item.label
+shows_count items = false
+
+-- whether the query asks how many rows its table has, and for nothing else
+abbrev pub counts_all : QueryTree → Bool
+counts_all tree = is_none tree.filter && (length tree.by == 0) && shows_count tree.items && (length tree.sort == 0) && is_none tree.first
 
 -- the commands that are run; a script that has another one is refused at its line, as one with a line that is no command
 abbrev pub is_known : CommandTree → Bool
 is_known (stat place) = true
+is_known (query place tree) = counts_all tree
 is_known _ = false
 
 -- the collection of the command lies in the region
 abbrev pub IsInRegion : Layout → CommandTree → Type 0
 IsInRegion shape (stat place) = place.coll < length shape.colls
+IsInRegion shape (query place tree) = place.coll < length shape.colls
 IsInRegion shape _ = Unit {0}
 
 -- the command makes these calls, and this is its reply
 abbrev pub RunsCommand : CommandTree → List CallEnd → List ℕ → Type 0
-RunsCommand (stat place) calls text = Stats place.coll calls text
+RunsCommand (stat place) calls text = Counts objects_line place.coll calls text
+RunsCommand (query place tree) calls text = (counts_all tree ≡ true) × Counts count_row place.coll calls text
 RunsCommand _ calls text = ⊥

@@ -1,9 +1,10 @@
--- A script of two commands: the calls that it makes over two objects, and what it prints.
+-- A script of two commands, and one of a query: the calls that they make over two objects, and what they print.
 use Rattle.std.specs.Prelude.{ℕ, List, [], ◌∷◌, ◌++◌, Some, None, codes}
 use Rattle.smc_core.specs.declared.local.Held.{Held}
 use Rattle.smc_trace.specs.Named.{begins, comes_to, enters, leaves}
 use Rattle.smc_trace.specs.Trace.{CallEnd}
-use Rattle.smc_script.specs.Trees.{PartTree, one, stat}
+use Rattle.smc_query.specs.Trees.{QueryTree, ItemTree, count}
+use Rattle.smc_script.specs.Trees.{PartTree, one, query, stat}
 
 -- `stat` of the tables that have the collections 0 and 1
 abbrev pub two_stats : List PartTree
@@ -24,3 +25,19 @@ their_calls =
 -- what they print
 abbrev pub their_text : List ℕ
 their_text = codes "objects 2\nobjects 0\n"
+
+-- `query region show count()`
+abbrev pub a_count : QueryTree
+a_count = record { table = codes "region"; filter = None; by = []; items = (let item : ItemTree = record { call = count; label = None } in item) ∷ []; sort = []; first = None }
+
+-- that query as a script, of the collection 0
+abbrev pub one_query : List PartTree
+one_query = one (record { line = 3; command = query (record { table = 1; coll = 0 }) a_count }) ∷ []
+
+-- the calls of the first of the two, alone
+abbrev pub its_calls : List CallEnd
+its_calls = enters 2 ++ begins 0 0 ++ comes_to 0 (Some (object_at 5 0)) ++ comes_to 0 (Some (object_at 7 3)) ++ comes_to 0 None ++ leaves
+
+-- what it prints
+abbrev pub its_text : List ℕ
+its_text = codes "rows 1\n2\n"

@@ -1,7 +1,6 @@
 -- What `run` reads, and what its status says of it.
 use Rattle.std.specs.Prelude.{◌≡◌, ◌⊎◌, ℕ, List, [], Option, Some, None, IfSome}
 use Rattle.std.specs.Io.KnownBytes.{Keeps}
-use Rattle.smc_core.specs.Machine.{Machine}
 use Rattle.smc_region.specs.Ends.{Ended}
 use Rattle.smc_history.specs.Happened.{Happened}
 use Rattle.smc_types.specs.Tables.{the_tables}
