@@ -1,5 +1,5 @@
 -- The words of a row with those of its references behind them are as many as a record has.
-use Rattle.std.proofs.Common.{◌≡◌, ℕ, ◌+◌, ◌<◌, true, false, not, cond, List, [], ◌∷◌, ◌++◌, zero, suc, drop, length, length-append, Option, None, refl, sym, subst, ap, ◌∙◌, arith}
+use Rattle.std.proofs.Common.{◌≡◌, ℕ, ◌+◌, true, false, cond, List, [], ◌∷◌, zero, suc, drop, length, length-append, Option, None, refl, subst, ap, ◌∙◌, arith}
 use Rattle.std.proofs.lemmas.List.Sums.{sum_by-cons}
 use Rattle.std.specs.Int.{div_ceil}
 use Rattle.smc_types.specs.Columns.{columns_width, is_reference, reference_count, value_kinds, width_of}
