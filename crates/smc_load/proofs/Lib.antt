@@ -1,2 +1,3 @@
 pub mod WordLaws
 pub mod RecordLaws
+pub mod TextLaws
