@@ -1,5 +1,5 @@
 -- What expressions are, and how large they may be.
-use Rattle.std.specs.Prelude.{◌≡◌, ℕ, ◌+◌, ◌-◌, ◌*◌, ◌^◌, ◌≤◌, max, Bool, true, ◌&&◌, ◌==◌, nat_le, nat_lt, if◌then◌else◌, unsigned_abs, Option, Some, None, Result, Ok, Err}
+use Rattle.std.specs.Prelude.{◌≡◌, ℕ, ◌+◌, ◌-◌, ◌*◌, ◌^◌, ◌≤◌, max, Bool, true, false, ◌&&◌, ◌==◌, nat_le, nat_lt, if◌then◌else◌, unsigned_abs, Option, Some, None, Result, Ok, Err}
 use Rattle.smc_types.specs.declared.column.FieldType.{FieldType}
 use Rattle.smc_types.specs.declared.column.FieldType.TheVariants as of
 use Rattle.smc_types.specs.declared.number.TheConstants.{COUNT_MAX, AMOUNT_MAX, RATE_MAX}
@@ -64,6 +64,19 @@ multiplied _ _ = Err Types
 abbrev pub negated : Kind → Result Kind PlanFault
 negated (Number number) = Ok (Number number)
 negated _ = Err Types
+
+-- whether two expressions can be compared: two numbers, two days or two texts
+abbrev pub is_comparable : Kind → Kind → Bool
+is_comparable (Number one) (Number other) = true
+is_comparable (Day one) (Day other) = true
+is_comparable Text Text = true
+is_comparable _ _ = false
+
+-- whether two numbers are within the limit where both are brought to the larger of their scales
+abbrev pub are_narrow : Kind → Kind → Bool
+are_narrow (Number one) (Number other) =
+    nat_lt (bound_at (larger_scale one other) one) SIZE_LIMIT && nat_lt (bound_at (larger_scale one other) other) SIZE_LIMIT
+are_narrow _ _ = true
 
 -- a bound as a `u128` counts it, where it can
 abbrev pub IsBound : Option ℕ → ℕ → Type 0

@@ -4,4 +4,6 @@ pub mod Leaves
 pub mod Planning
 pub mod Bounds
 pub mod Typed
+pub mod Conditions
 pub mod Exprs
+pub mod Conds
