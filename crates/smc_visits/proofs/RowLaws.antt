@@ -31,14 +31,6 @@ pub look-held : (old new : Caller) (number : Number) (found : Option Held) → I
 look-held old new number None same is = tt
 look-held old new number (Some held) same is = (look-holds old new number held same is, same)
 
--- ---- widths
-
-pub wide : (shape now : Layout) (c width : ℕ) (is : Bool) → now ≡ shape → is ≡ (width_of now c == width) → is ≡ true → width_of shape c ≡ width
-wide shape now c width is same e holds = subst (λ (k : Layout). width_of k c ≡ width) same (grind (arith, nat_tests, e, holds))
-
-pub not_wide : (shape now : Layout) (c width : ℕ) (is : Bool) → now ≡ shape → is ≡ (width_of now c == width) → is ≡ false → width_of shape c ≢ width
-not_wide shape now c width is same e fails = subst (λ (k : Layout). width_of k c ≢ width) same (grind (arith, nat_tests, e, fails))
-
 -- ---- paths and rows
 
 -- a list of no length

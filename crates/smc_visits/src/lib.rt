@@ -10,5 +10,7 @@
 #![tactic(auto)]
 
 mod row;
+mod rows;
 
 pub use row::read_row;
+pub use rows::scan_rows;

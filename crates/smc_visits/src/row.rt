@@ -1,5 +1,5 @@
 //! The row of an object that a section holds.
-ghost use Rattle.std.specs.Prelude.{◌≡◌, ◌+◌, ◌^◌, ◌<◌, ◌≤◌, ◌==◌, List, ℕ, Some, None, IfSome, length, option_map, if◌then◌else◌};
+ghost use Rattle.std.specs.Prelude.{◌≡◌, ◌≢◌, ◌+◌, ◌^◌, ◌<◌, ◌≤◌, Some, None, IfSome, MatchBool, length, option_map, if◌then◌else◌};
 ghost use Rattle.std.specs.List.{AllByRecursion};
 ghost use Rattle.smc_shape.specs.Layout.{width_of};
 ghost use Rattle.smc_core.specs.declared.phase.Phase.TheVariants.{Idle};
@@ -19,7 +19,7 @@ use smc_words::Number;
 /// Whether the records of the object's collection have so many words.
 #[inline(always)]
 fn has_width(s: &Section<'_>, held: Held, width: u32) -> bool
-    ensures { result ≡ (width_of s.now.shape held.number.coll == width) }
+    ensures { MatchBool result (width_of s.now.shape held.number.coll ≡ width) (width_of s.now.shape held.number.coll ≢ width) }
 {
     let shape = s.region().shape();
     let coll = held.number().coll;
