@@ -8,5 +8,7 @@
 #![tactic(auto)]
 
 mod decimal;
+pub mod laws;
+mod leaf;
 
 pub use decimal::Decimal;
