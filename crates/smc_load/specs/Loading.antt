@@ -10,6 +10,7 @@ use Rattle.smc_types.specs.declared.column.Column.{Column}
 use Rattle.smc_types.specs.declared.column.FieldType.{FieldType}
 use Rattle.smc_types.specs.declared.column.FieldType.TheVariants.{RefTo}
 use Rattle.smc_types.specs.declared.schema.Schema.{Schema}
+use Rattle.smc_tbl.specs.Words.{AreRowWords}
 use Rattle.smc_region.specs.Callers.{Caller}
 use Rattle.smc_trace.specs.Trace.{CallEnd}
 use Rattle.smc_does.specs.Does.{DoesSome}
@@ -61,12 +62,14 @@ PutsKey false table key number old new = new ≡ old
 -- the row of these words is added as one object of the collection, its references found by the keys as they stand, and
 -- its first word is its key
 pub record LoadsRow (schema : Schema) (table coll : ℕ) (old new : Entries) (words : List ℕ) (calls : List CallEnd) : Type 0 where
+  pub row : AreRowWords schema words
   pub number : Number
   pub adds : AddsRow coll (record_of schema.columns old words) (Ok number) calls
   pub puts : PutsKey schema.keyed table (slice_index words 0) number old new
 
 -- both tries to add it are refused
 pub record RefusesRow (schema : Schema) (coll : ℕ) (keys : Entries) (words : List ℕ) (calls : List CallEnd) : Type 0 where
+  pub row : AreRowWords schema words
   pub cause : Full
   pub adds : AddsRow coll (record_of schema.columns keys words) (Err cause) calls
 

@@ -1,3 +1,4 @@
+//! Why the rows of a file are not all loaded.
 ghost use Rattle.std.specs.Prelude.{◌≡◌};
 ghost use Rattle.smc_load.specs.declared.fault.LoadFault.TheVariants as load;
 

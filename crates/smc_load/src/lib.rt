@@ -17,6 +17,8 @@ mod files;
 mod references;
 mod rows;
 mod table;
+#[cfg(test)]
+mod tests;
 
 pub use fault::LoadFault;
 pub use files::load;
