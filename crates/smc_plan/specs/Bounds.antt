@@ -8,7 +8,7 @@ use Rattle.smc_plan.specs.declared.fault.PlanFault.TheVariants.{Types, TooWide}
 use Rattle.smc_plan.specs.declared.kind.Extent.{Extent}
 use Rattle.smc_plan.specs.declared.kind.Kind.{Kind}
 use Rattle.smc_plan.specs.declared.kind.Kind.TheVariants.{Number, Day, Text}
-use Rattle.smc_plan.specs.declared.kind.TheConstants.{MAX_SCALE, HUNDREDTHS, SIZE_LIMIT, DAY_BOUND}
+use Rattle.smc_plan.specs.declared.kind.TheConstants.{MAX_SCALE, HUNDREDTHS, SIZE_LIMIT, SUM_LIMIT, DAY_BOUND}
 
 -- a number of at most so many units, with so many decimals
 abbrev pub extent : ℕ → ℕ → Extent
@@ -64,6 +64,16 @@ multiplied _ _ = Err Types
 abbrev pub negated : Kind → Result Kind PlanFault
 negated (Number number) = Ok (Number number)
 negated _ = Err Types
+
+-- whether an expression is a number
+abbrev pub is_number : Kind → Bool
+is_number (Number number) = true
+is_number _ = false
+
+-- whether a sum or an average can be taken of so many units
+abbrev pub is_summable : Kind → Bool
+is_summable (Number number) = nat_lt number.bound SUM_LIMIT
+is_summable _ = true
 
 -- whether two expressions can be compared: two numbers, two days or two texts
 abbrev pub is_comparable : Kind → Kind → Bool

@@ -1,6 +1,6 @@
 //! What an expression is, and how large it may be.
 ghost use Rattle.std.specs.Prelude.{◌≡◌, ℕ, ◌+◌, ◌≤◌, nat_lt, IsTrue, IfOk};
-ghost use Rattle.smc_plan.specs.Bounds.{IsBound, added, are_narrow, bound_at, bounded, is_comparable, is_within, joined, kind_of, multiplied, negated};
+ghost use Rattle.smc_plan.specs.Bounds.{IsBound, added, are_narrow, bound_at, bounded, is_comparable, is_number, is_summable, is_within, joined, kind_of, multiplied, negated};
 ghost use Rattle.smc_plan.specs.declared.kind.Kind.TheVariants.{Number, Day as OfDay};
 
 use crate::PlanFault;
@@ -180,6 +180,23 @@ pub(crate) fn negated(kind: Kind) -> Result<Kind, PlanFault>
     match kind {
         Kind::Number(number) => Ok(Kind::Number(number)),
         _ => Err(PlanFault::Types),
+    }
+}
+
+/// Whether an expression is a number.
+pub(crate) fn is_number(kind: Kind) -> bool
+    ensures { result ≡ is_number kind }
+{
+    matches!(kind, Kind::Number(_))
+}
+
+/// Whether a sum or an average can be taken of so many units.
+pub(crate) fn is_summable(kind: Kind) -> bool
+    ensures { result ≡ is_summable kind }
+{
+    match kind {
+        Kind::Number(number) => number.bound < SUM_LIMIT,
+        _ => true,
     }
 }
 
