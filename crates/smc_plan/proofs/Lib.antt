@@ -1,3 +1,4 @@
 pub mod MapLaws
 pub mod EachLaws
 pub mod OrderLaws
+pub mod WorkedLaws

@@ -11,3 +11,4 @@ pub mod Conds
 pub mod Items
 pub mod Orders
 pub mod Planned
+pub mod Worked

@@ -18,6 +18,7 @@ mod expr;
 mod fault;
 mod item;
 mod kind;
+pub mod laws;
 mod leaf;
 mod leaves;
 mod order;

@@ -1,0 +1,16 @@
+//! What plans are worth, as theorems over the definitions: functions with no body, whose clauses are the laws.
+ghost use Rattle.smc_plan.specs.Worked.{EndsInReference, FaultsInOrder, FollowsName, LacksField, LacksFold, LacksTable, PlansForecast, PlansShipping, SumsSquares, SumsText};
+
+/// Queries over the tables of TPC-H, with their plans or their faults.
+pub fn worked_queries()
+    ensures lacks_table { LacksTable }
+    ensures lacks_field { LacksField }
+    ensures lacks_fold { LacksFold }
+    ensures sums_text { SumsText }
+    ensures ends_in_reference { EndsInReference }
+    ensures follows_name { FollowsName }
+    ensures sums_squares { SumsSquares }
+    ensures faults_in_order { FaultsInOrder }
+    ensures plans_forecast { PlansForecast }
+    ensures plans_shipping { PlansShipping }
+{}
