@@ -11,4 +11,5 @@ pub mod Conds
 pub mod Items
 pub mod Orders
 pub mod Planned
+pub mod Edits
 pub mod Worked
