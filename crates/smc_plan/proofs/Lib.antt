@@ -2,3 +2,5 @@ pub mod MapLaws
 pub mod EachLaws
 pub mod OrderLaws
 pub mod WorkedLaws
+pub mod LeafLaws
+pub mod GrowLaws

@@ -12,4 +12,5 @@ pub mod Items
 pub mod Orders
 pub mod Planned
 pub mod Edits
+pub mod Laws
 pub mod Worked

@@ -1,4 +1,5 @@
 //! What plans are worth, as theorems over the definitions: functions with no body, whose clauses are the laws.
+ghost use Rattle.smc_plan.specs.Laws.{EditsDiffer, QueriesDiffer};
 ghost use Rattle.smc_plan.specs.Worked.{EndsInReference, FaultsInOrder, FollowsName, LacksField, LacksFold, LacksTable, PlansForecast, PlansShipping, SumsSquares, SumsText};
 
 /// Queries over the tables of TPC-H, with their plans or their faults.
@@ -13,4 +14,10 @@ pub fn worked_queries()
     ensures faults_in_order { FaultsInOrder }
     ensures plans_forecast { PlansForecast }
     ensures plans_shipping { PlansShipping }
+{}
+
+/// No leaf of a plan stands twice.
+pub fn leaves_are_different()
+    ensures of_queries { QueriesDiffer }
+    ensures of_edits { EditsDiffer }
 {}
