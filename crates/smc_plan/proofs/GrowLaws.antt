@@ -39,7 +39,7 @@ Grows {A} plan = (leaves : List Leaf) (all : Made A) → plan leaves ≡ Ok all 
 extends-made : {A : Type 0} (old : List Leaf) (one all : Made A) → ◌≡◌ {A = Result (Made A) PlanFault} (Ok one) (Ok all) → Extends old one.leaves → Extends old all.leaves
 extends-made {A} old one all is extends = let same : one ≡ all = cc in subst (λ (other : Made A). Extends old other.leaves) same extends
 
-grows-given : {A : Type 0} (part : Result A PlanFault) → Grows (given part)
+pub grows-given : {A : Type 0} (part : Result A PlanFault) → Grows (given part)
 grows-given part leaves all is =
     let step = and_then-Ok part (λ one. Ok (made leaves one)) all is in extends-made leaves (made leaves step.0) all step.2 (extends-same leaves)
 
@@ -48,17 +48,17 @@ grows-then first later one rest leaves all is =
     let step = and_then-Ok (first leaves) (λ first-made. later first-made.part first-made.leaves) all is in
     extends-on leaves step.0.leaves all.leaves (one leaves step.0 step.1) (rest step.0.part step.0.leaves all step.2)
 
-grows-each : {A B : Type 0} (plan : A → Planning B) → ((element : A) → Grows (plan element)) → (list : List A) → Grows (each plan list)
+pub grows-each : {A B : Type 0} (plan : A → Planning B) → ((element : A) → Grows (plan element)) → (list : List A) → Grows (each plan list)
 grows-each plan grows [] = grows-given (Ok [])
 grows-each plan grows (element ∷ elements) =
     grows-then (plan element) (λ first. each plan elements >>= (λ rest. given (Ok (first ∷ rest)))) (grows element)
     (λ first. grows-then (each plan elements) (λ rest. given (Ok (first ∷ rest))) (grows-each plan grows elements) (λ rest. grows-given (Ok (first ∷ rest))))
 
-grows-leaves : {A : Type 0} (part : List Leaf → A) → Grows (with_leaves part)
+pub grows-leaves : {A : Type 0} (part : List Leaf → A) → Grows (with_leaves part)
 grows-leaves part leaves all is = extends-made leaves (made leaves (part leaves)) all is (extends-same leaves)
 
 -- two parts, and one made of both
-grows-both : {A B C : Type 0} (first : Planning A) (second : Planning B) (joined : A → B → Result C PlanFault) → Grows first → Grows second
+pub grows-both : {A B C : Type 0} (first : Planning A) (second : Planning B) (joined : A → B → Result C PlanFault) → Grows first → Grows second
     → Grows (first >>= (λ one. second >>= (λ other. given (joined one other))))
 grows-both first second joined one other =
     grows-then first (λ left. second >>= (λ right. given (joined left right))) one
@@ -76,7 +76,7 @@ module _ (catalog : Catalog) (table : ℕ) where
       let step = and_then-Ok (leaf_of catalog table path) (λ leaf. Ok (leaf_typed leaf.kind (placed leaves leaf))) all is in
       extends-made leaves (leaf_typed step.0.kind (placed leaves step.0)) all step.2 (placed-extends leaves step.0)
 
-  grows-path : (path : PathTree) → Grows (placed_path catalog table path)
+  pub grows-path : (path : PathTree) → Grows (placed_path catalog table path)
   grows-path path leaves all is =
       let step = and_then-Ok (leaf_of catalog table path) (λ leaf. Ok (placed leaves leaf)) all is in
       extends-made leaves (placed leaves step.0) all step.2 (placed-extends leaves step.0)
@@ -114,7 +114,7 @@ module _ (catalog : Catalog) (table : ℕ) where
   grows-paths = grows-each (placed_path catalog table) grows-path
 
   module _ (folds : List Word) where
-    grows-call : (call : CallTree) → Grows (planned_call catalog folds table call)
+    pub grows-call : (call : CallTree) → Grows (planned_call catalog folds table call)
     grows-call query.count = grows-given (Ok count)
     grows-call (query.aggregate call one) = grows-one (typed_expr catalog table one) (aggregated call) (grows-expr one)
     grows-call (query.fold name one) =
@@ -140,26 +140,38 @@ ends-leaves : {A : Type 0} (holds : Made A → Type 0) (part : List Leaf → A) 
 ends-leaves {A} holds part rest leaves all is = let same : made leaves (part leaves) ≡ all = cc in subst holds same (rest leaves)
 
 -- the plan of a query behind its condition, its paths, its output columns and its keys
-abbrev behind-keys : QueryTree → Option ConditionTree → List ℕ → List OutputTree → List OrderKey → Planning Planned
+abbrev pub behind-keys : QueryTree → Option ConditionTree → List ℕ → List OutputTree → List OrderKey → Planning Planned
 behind-keys query filter by items sort =
     with_leaves (λ leaves. record { leaves = leaves; filter = filter; by = by; items = items; sort = sort; first = query.first })
 
-abbrev behind-items : QueryTree → Option ConditionTree → List ℕ → List OutputTree → Planning Planned
+abbrev pub behind-items : QueryTree → Option ConditionTree → List ℕ → List OutputTree → Planning Planned
 behind-items query filter by items = planned_keys query.by query.items query.sort >>= behind-keys query filter by items
 
-abbrev behind-paths : Catalog → List Word → ℕ → QueryTree → Option ConditionTree → List ℕ → Planning Planned
+abbrev pub behind-paths : Catalog → List Word → ℕ → QueryTree → Option ConditionTree → List ℕ → Planning Planned
 behind-paths catalog folds table query filter by = planned_items catalog folds table query.items >>= behind-items query filter by
 
-abbrev behind-filter : Catalog → List Word → ℕ → QueryTree → Option ConditionTree → Planning Planned
+abbrev pub behind-filter : Catalog → List Word → ℕ → QueryTree → Option ConditionTree → Planning Planned
 behind-filter catalog folds table query filter = placed_paths catalog table query.by >>= behind-paths catalog folds table query filter
 
-pub grows-parts : (catalog : Catalog) (folds : List Word) (table : ℕ) (query : QueryTree) → Grows (planned_parts catalog folds table query)
-grows-parts catalog folds table query =
-    grows-then (planned_filter catalog table query.filter) (behind-filter catalog folds table query) (grows-filter catalog table query.filter)
-    (λ filter. grows-then (placed_paths catalog table query.by) (behind-paths catalog folds table query filter) (grows-paths catalog table query.by)
-    (λ by. grows-then (planned_items catalog folds table query.items) (behind-items query filter by) (grows-items catalog table folds query.items)
-    (λ items. grows-then (planned_keys query.by query.items query.sort) (behind-keys query filter by items) (grows-keys query.by query.items query.sort)
-    (λ sort. grows-leaves (λ leaves. record { leaves = leaves; filter = filter; by = by; items = items; sort = sort; first = query.first })))))
+module _ (catalog : Catalog) (folds : List Word) (table : ℕ) (query : QueryTree) where
+  pub grows-behind-keys : (filter : Option ConditionTree) (by : List ℕ) (items : List OutputTree) (sort : List OrderKey) → Grows (behind-keys query filter by items sort)
+  grows-behind-keys filter by items sort = grows-leaves (λ leaves. record { leaves = leaves; filter = filter; by = by; items = items; sort = sort; first = query.first })
+
+  pub grows-behind-items : (filter : Option ConditionTree) (by : List ℕ) (items : List OutputTree) → Grows (behind-items query filter by items)
+  grows-behind-items filter by items =
+      grows-then (planned_keys query.by query.items query.sort) (behind-keys query filter by items) (grows-keys query.by query.items query.sort) (grows-behind-keys filter by items)
+
+  pub grows-behind-paths : (filter : Option ConditionTree) (by : List ℕ) → Grows (behind-paths catalog folds table query filter by)
+  grows-behind-paths filter by =
+      grows-then (planned_items catalog folds table query.items) (behind-items query filter by) (grows-items catalog table folds query.items) (grows-behind-items filter by)
+
+  pub grows-behind-filter : (filter : Option ConditionTree) → Grows (behind-filter catalog folds table query filter)
+  grows-behind-filter filter =
+      grows-then (placed_paths catalog table query.by) (behind-paths catalog folds table query filter) (grows-paths catalog table query.by) (grows-behind-paths filter)
+
+  pub grows-parts : Grows (planned_parts catalog folds table query)
+  grows-parts =
+      grows-then (planned_filter catalog table query.filter) (behind-filter catalog folds table query) (grows-filter catalog table query.filter) grows-behind-filter
 
 -- the leaves of a plan are all that were placed
 abbrev pub HasAll : Made Planned → Type 0
@@ -190,25 +202,30 @@ queries-differ catalog folds query plan is =
 
 -- ---- edits
 
-abbrev behind-value : Catalog → Field → Option CondTree → KindedTree → Planning PlannedEdit
+abbrev pub behind-value : Catalog → Field → Option CondTree → KindedTree → Planning PlannedEdit
 behind-value catalog field cond value =
     planned_filter catalog field.table cond >>= (λ filter. with_leaves (λ leaves. record { leaves = leaves; field = field; value = value; filter = filter }))
 
-abbrev behind-typed : Catalog → Field → Option CondTree → KindedTree → Planning PlannedEdit
+abbrev pub behind-typed : Catalog → Field → Option CondTree → KindedTree → Planning PlannedEdit
 behind-typed catalog field cond typed = given (written field.kind typed) >>= behind-value catalog field cond
 
-grows-edit : (catalog : Catalog) (field : Field) (value : ExprTree) (cond : Option CondTree) → Grows (edited_parts catalog field value cond)
-grows-edit catalog field one cond =
-    grows-then (typed_expr catalog field.table one) (behind-typed catalog field cond) (grows-expr catalog field.table one)
-    (λ typed. grows-then (given (written field.kind typed)) (behind-value catalog field cond) (grows-given (written field.kind typed))
-    (λ value. grows-then (planned_filter catalog field.table cond)
-    (λ filter. with_leaves (λ leaves. record { leaves = leaves; field = field; value = value; filter = filter })) (grows-filter catalog field.table cond)
-    (λ filter. grows-leaves (λ leaves. record { leaves = leaves; field = field; value = value; filter = filter }))))
+module _ (catalog : Catalog) (field : Field) (cond : Option CondTree) where
+  pub grows-behind-value : (value : KindedTree) → Grows (behind-value catalog field cond value)
+  grows-behind-value value =
+      grows-then (planned_filter catalog field.table cond) (λ filter. with_leaves (λ leaves. record { leaves = leaves; field = field; value = value; filter = filter }))
+      (grows-filter catalog field.table cond) (λ filter. grows-leaves (λ leaves. record { leaves = leaves; field = field; value = value; filter = filter }))
+
+  pub grows-behind-typed : (typed : KindedTree) → Grows (behind-typed catalog field cond typed)
+  grows-behind-typed typed =
+      grows-then (given (written field.kind typed)) (behind-value catalog field cond) (grows-given (written field.kind typed)) grows-behind-value
+
+  grows-edit : (value : ExprTree) → Grows (edited_parts catalog field value cond)
+  grows-edit one = grows-then (typed_expr catalog field.table one) (behind-typed catalog field cond) (grows-expr catalog field.table one) grows-behind-typed
 
 abbrev pub HasAllOfEdit : Made PlannedEdit → Type 0
 HasAllOfEdit all = all.part.leaves ≡ all.leaves
 
-edit-leaves : (catalog : Catalog) (field : Field) (value : ExprTree) (cond : Option CondTree) (leaves : List Leaf) (all : Made PlannedEdit)
+pub edit-leaves : (catalog : Catalog) (field : Field) (value : ExprTree) (cond : Option CondTree) (leaves : List Leaf) (all : Made PlannedEdit)
     → edited_parts catalog field value cond leaves ≡ Ok all → HasAllOfEdit all
 edit-leaves catalog field one cond =
     ends-then HasAllOfEdit (typed_expr catalog field.table one) (behind-typed catalog field cond)
@@ -224,7 +241,7 @@ edits-differ catalog table name one cond plan is =
     let second = and_then-Ok (edited_field catalog first.0 name) (λ field. and_then (edited_parts catalog field one cond []) (λ all. Ok all.part)) plan first.2 in
     let third = and_then-Ok (edited_parts catalog second.0 one cond []) (λ all. Ok all.part) plan second.2 in
     let whole : HasAllOfEdit third.0 = edit-leaves catalog second.0 one cond [] third.0 third.1 in
-    let grown : Extends [] third.0.leaves = grows-edit catalog second.0 one cond [] third.0 third.1 in
+    let grown : Extends [] third.0.leaves = grows-edit catalog second.0 cond one [] third.0 third.1 in
     let same : third.0.part ≡ plan = cc in
     let leaves : third.0.leaves ≡ plan.leaves = sym whole ∙ ap (λ (one : PlannedEdit). one.leaves) same in
     subst AreDifferent leaves (grown.differs none-differ)

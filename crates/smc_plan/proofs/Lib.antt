@@ -4,3 +4,5 @@ pub mod OrderLaws
 pub mod WorkedLaws
 pub mod LeafLaws
 pub mod GrowLaws
+pub mod KindLaws
+pub mod PlanLaws

@@ -12,5 +12,6 @@ pub mod Items
 pub mod Orders
 pub mod Planned
 pub mod Edits
+pub mod Kinds
 pub mod Laws
 pub mod Worked
