@@ -8,7 +8,7 @@ use Rattle.smc_plan.specs.declared.fault.PlanFault.TheVariants.{Types, TooWide}
 use Rattle.smc_plan.specs.declared.kind.Extent.{Extent}
 use Rattle.smc_plan.specs.declared.kind.Kind.{Kind}
 use Rattle.smc_plan.specs.declared.kind.Kind.TheVariants.{Number, Day, Text}
-use Rattle.smc_plan.specs.declared.kind.TheConstants.{MAX_SCALE, HUNDREDTHS, SIZE_LIMIT, DAY_BOUND}
+use Rattle.smc_plan.specs.declared.kind.TheConstants.{MAX_SCALE, HUNDREDTHS, SIZE_LIMIT, SUM_LIMIT, DAY_BOUND}
 
 -- a number of at most so many units, with so many decimals
 abbrev pub extent : ℕ → ℕ → Extent
@@ -65,6 +65,16 @@ abbrev pub negated : Kind → Result Kind PlanFault
 negated (Number number) = Ok (Number number)
 negated _ = Err Types
 
+-- whether an expression is a number
+abbrev pub is_number : Kind → Bool
+is_number (Number number) = true
+is_number _ = false
+
+-- whether a sum or an average can be taken of so many units
+abbrev pub is_summable : Kind → Bool
+is_summable (Number number) = nat_lt number.bound SUM_LIMIT
+is_summable _ = true
+
 -- whether two expressions can be compared: two numbers, two days or two texts
 abbrev pub is_comparable : Kind → Kind → Bool
 is_comparable (Number one) (Number other) = true
@@ -77,6 +87,17 @@ abbrev pub are_narrow : Kind → Kind → Bool
 are_narrow (Number one) (Number other) =
     nat_lt (bound_at (larger_scale one other) one) SIZE_LIMIT && nat_lt (bound_at (larger_scale one other) other) SIZE_LIMIT
 are_narrow _ _ = true
+
+-- whether a field takes such a value: a number a number of no more decimals, a day a day
+abbrev pub is_taken_by : (field value : Kind) → Bool
+is_taken_by (Number field) (Number value) = nat_le value.scale field.scale
+is_taken_by (Day field) (Day value) = true
+is_taken_by _ _ = false
+
+-- whether a number is within the limit where it is brought to the scale of a field
+abbrev pub is_narrow_in : (field value : Kind) → Bool
+is_narrow_in (Number field) (Number value) = nat_lt (bound_at field.scale value) SIZE_LIMIT
+is_narrow_in _ _ = true
 
 -- a bound as a `u128` counts it, where it can
 abbrev pub IsBound : Option ℕ → ℕ → Type 0

@@ -5,5 +5,13 @@ pub mod Planning
 pub mod Bounds
 pub mod Typed
 pub mod Conditions
+pub mod Outputs
 pub mod Exprs
 pub mod Conds
+pub mod Items
+pub mod Orders
+pub mod Planned
+pub mod Edits
+pub mod Kinds
+pub mod Laws
+pub mod Worked
