@@ -1,11 +1,9 @@
 -- A row is read step by step.
-use Rattle.std.proofs.Common.{◌≡◌, ℕ, Bool, true, false, Option, Some, None, List, [], ◌∷◌, ◌++◌, length, refl, sym, subst, ap, ◌∙◌, arith}
-use Rattle.std.specs.Prelude.{◌≢◌, ◌==◌, IfSome, if◌then◌else◌}
-use Rattle.std.proofs.lemmas.Bool.Decides.{nat_tests}
+use Rattle.std.proofs.Common.{◌≡◌, ℕ, Bool, true, false, Option, Some, None, List, [], ◌∷◌, ◌++◌, length, refl, subst, ap, arith}
+use Rattle.std.specs.Prelude.{IfSome, if◌then◌else◌}
 use Rattle.smc_words.specs.declared.number.Number.{Number}
 use Rattle.smc_shape.specs.Layout.{Layout, width_of}
 use Rattle.smc_core.specs.declared.local.Local.{Local}
-use Rattle.smc_core.specs.declared.local.Scan.{Scan}
 use Rattle.smc_region.specs.declared.held.Held.{Held}
 use Rattle.smc_region.specs.Callers.{Caller}
 use Rattle.smc_region.specs.Looks.{LooksUp, slot_found}

@@ -55,7 +55,7 @@ scan-kept old new one shape scans is = record {
   within = subst (λ (k : Layout). one.place ≤ slots_of k one.coll) (sym shape) is.within;
   here = subst
       (λ (k : List core.Scan). scan_of k (number_of (slice_get k one.scan))
-          ≡ Some (record { number = number_of (slice_get k one.scan); coll = one.coll; place = one.place; ended = one.ended })) (sym scans) is.here;
+      ≡ Some (record { number = number_of (slice_get k one.scan); coll = one.coll; place = one.place; ended = one.ended })) (sym scans) is.here;
 }
 
 -- and it has its number

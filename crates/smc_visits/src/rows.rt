@@ -16,7 +16,12 @@ use smc_region::{Held, Pass, Region, Section};
 use smc_words::NoMemory;
 
 /// Reads the row of an object, and puts its words behind the others where it is whole.
-fn take_row(s: &mut Section<'_>, held: Held, leaves: &Leaves, rows: &mut Vec<u64>) -> Result<(), NoMemory>
+fn take_row(
+    s: &mut Section<'_>,
+    held: Held,
+    leaves: &Leaves,
+    rows: &mut Vec<u64>,
+) -> Result<(), NoMemory>
     requires idle { s.old.local.stand.phase ≡ Idle }
     requires good { IsHeld s.old held }
     requires fits { AllByRecursion FitsRecord leaves.now }
@@ -40,7 +45,12 @@ fn take_row(s: &mut Section<'_>, held: Held, leaves: &Leaves, rows: &mut Vec<u64
 }
 
 /// Takes the rows of the objects that a scan of the collection `c` comes to.
-fn take_rows(s: &mut Section<'_>, c: u8, leaves: &Leaves, rows: &mut Vec<u64>) -> Result<(), NoMemory>
+fn take_rows(
+    s: &mut Section<'_>,
+    c: u8,
+    leaves: &Leaves,
+    rows: &mut Vec<u64>,
+) -> Result<(), NoMemory>
     requires idle { s.old.local.stand.phase ≡ Idle }
     requires coll { c < length s.old.shape.colls }
     requires room { length s.old.local.stand.scans < 2 ^ 32 - 1 }
@@ -64,7 +74,13 @@ fn take_rows(s: &mut Section<'_>, c: u8, leaves: &Leaves, rows: &mut Vec<u64>) -
 ///
 /// # Errors
 /// Memory was refused. The pass is outside, and of `rows` nothing is said.
-pub fn scan_rows(pass: Pass, region: &Region, c: u8, leaves: &Leaves, rows: &mut Vec<u64>) -> (Pass, Result<(), NoMemory>)
+pub fn scan_rows(
+    pass: Pass,
+    region: &Region,
+    c: u8,
+    leaves: &Leaves,
+    rows: &mut Vec<u64>,
+) -> (Pass, Result<(), NoMemory>)
     requires here { IsPassOf region.now pass }
     requires coll { c < length pass.shape.colls }
     requires fits { AllByRecursion FitsRecord leaves.now }

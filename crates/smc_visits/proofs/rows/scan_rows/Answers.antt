@@ -1,4 +1,4 @@
-use Rattle.std.proofs.Common.{List, ℕ, subst}
+use Rattle.std.proofs.Common.{List, subst}
 use Rattle.std.proofs.lemmas.Result.{on_ok_weaker}
 use Rattle.smc_shape.specs.Layout.{Layout}
 use Rattle.smc_trace.specs.Trace.{CallEnd}
@@ -15,6 +15,6 @@ returns-clause-done c =
     let Takes : Layout → List CallEnd → Type 0 = λ shape calls. TakesRows shape c.args.c c.args.leaves.now c.args.rows.now.items c.take_rows-done.new.rows.items calls in
     on_ok_weaker c.take_rows-done.result
     (λ (done : DoesSome start end (Takes start.shape)).
-        subst (λ (k : Layout). DoesSome c.args.pass c.leave.result (InSection (Takes k))) c.enter-section.ensures.same.1
-        (in-section c.args.pass start end c.leave.result (Takes start.shape) done.0 c.enter-section.ensures.same c.enter-section.ensures.entered done.1 done.2
-        c.leave.ensures.same c.leave.ensures.left)) c.take_rows-done.ensures.done
+    subst (λ (k : Layout). DoesSome c.args.pass c.leave.result (InSection (Takes k))) c.enter-section.ensures.same.1
+    (in-section c.args.pass start end c.leave.result (Takes start.shape) done.0 c.enter-section.ensures.same c.enter-section.ensures.entered done.1 done.2
+    c.leave.ensures.same c.leave.ensures.left)) c.take_rows-done.ensures.done

@@ -1,6 +1,6 @@
 use Rattle.std.proofs.Common.{◌≡◌, ◌-◌, false}
 use Rattle.smc_shape.specs.Layout.{slots_of}
-use Rattle.smc_does.specs.Does.{Does, Stays}
+use Rattle.smc_does.specs.Does.{Stays}
 use Rattle.smc_objects.specs.Scans.{IsScanOf, scan_in}
 use Rattle.smc_visits.proofs.VisitLaws.{SoFar}
 use Rattle.smc_visits.proofs.rows.take_rows.Given as goal
