@@ -13,4 +13,4 @@ mod row;
 mod rows;
 
 pub use row::read_row;
-pub use rows::scan_rows;
+pub use rows::{TakeRow, scan_rows};
