@@ -1,7 +1,7 @@
 -- A scan edits one object after another.
 use Rattle.std.proofs.Common.{◌≡◌, ℕ, ◌+◌, ◌≤◌, Bool, true, false, cond, Option, Some, None, List, [], ◌∷◌, ◌++◌, sym, subst, ap, ◌∙◌, arith, append_assoc}
-use Rattle.std.specs.Prelude.{count_by, flat_map}
-use Rattle.std.proofs.lemmas.List.Sums.{sum_by-append}
+use Rattle.std.specs.Prelude.{flat_map}
+use Rattle.std.proofs.lemmas.List.Sums.{sum_by_push}
 use Rattle.smc_shape.specs.Layout.{Layout}
 use Rattle.smc_core.specs.declared.local.Held.{Held}
 use Rattle.smc_plan.specs.declared.leaf.Leaf.{Leaf}
@@ -19,13 +19,6 @@ use Rattle.smc_visits.specs.Edits.{AreFew, Edited, EditsRows, counts_of, edit_ca
 use Rattle.smc_visits.proofs.VisitLaws.{SoFar, visits-all, visits-more}
 
 -- ---- counts
-
-count-more : {X : Type 0} (p : X → Bool) (xs : List X) (x : X) → count_by p (xs ++ x ∷ []) ≡ count_by p xs + cond (p x) 1 0
-count-more p xs x =
-    sum_by-append (λ y. cond (p y) 1 0) xs (x ∷ []) ∙ ap (λ (k : ℕ). count_by p xs + k) (none (cond (p x) 1 0))
-  where
-    none : (k : ℕ) → 0 + k ≡ k
-    none k = omega arith
 
 same-counts : (a b c a' b' c' : ℕ) → a ≡ a' → b ≡ b' → c ≡ c'
     → (let x : Edits = record { removed = a; written = b; skipped = c } in x) ≡ (let x : Edits = record { removed = a'; written = b'; skipped = c' } in x)
@@ -46,8 +39,8 @@ added edits Skip first = same-counts _ _ _ _ _ _ (omega arith) (omega arith) (om
 
 counts-more : (decide : List ℕ → Edit) (visits : List Edited) (one : Edited) → counts_of decide (visits ++ one ∷ []) ≡ with_edit (counts_of decide visits) (edit_in decide one) one.first
 counts-more decide visits one =
-    same-counts _ _ _ _ _ _ (count-more (λ (e : Edited). is_removed (edit_in decide e) e.first) visits one) (count-more (λ (e : Edited). is_written (edit_in decide e)) visits one)
-    (count-more (λ (e : Edited). is_skipped (edit_in decide e)) visits one)
+    same-counts _ _ _ _ _ _ (sum_by_push (λ (e : Edited). cond (is_removed (edit_in decide e) e.first) 1 0) visits one) (sum_by_push (λ (e : Edited). cond (is_written (edit_in decide e)) 1 0) visits one)
+    (sum_by_push (λ (e : Edited). cond (is_skipped (edit_in decide e)) 1 0) visits one)
     ∙ added (counts_of decide visits) (edit_in decide one) one.first
 
 few-by : (edits next : Edits) (most more : ℕ) → most + 1 ≤ more → next.removed ≤ edits.removed + 1 → next.written ≤ edits.written + 1 → next.skipped ≤ edits.skipped + 1

@@ -37,7 +37,8 @@ number-kept old new one scans = ap (λ (k : List core.Scan). number_of (slice_ge
 
 -- ---- visits
 
-all-more : {X : Type 0} (P : X → Type 0) (xs : List X) (x : X) → AllByRecursion P xs → P x → AllByRecursion P (xs ++ x ∷ [])
+-- one item more of which the same holds
+pub all-more : {X : Type 0} (P : X → Type 0) (xs : List X) (x : X) → AllByRecursion P xs → P x → AllByRecursion P (xs ++ x ∷ [])
 all-more P [] x all here = (here, tt)
 all-more P (y ∷ xs) x all here = (all.0, all-more P xs x all.1 here)
 

@@ -10,6 +10,7 @@
 #![tactic(auto)]
 
 mod edits;
+pub mod laws;
 mod row;
 mod rows;
 
