@@ -1,2 +1,5 @@
 pub mod RowLaws
 pub mod VisitLaws
+pub mod EditLaws
+pub mod StillLaws
+pub mod FitLaws

@@ -1,14 +1,15 @@
 -- A row is read step by step.
-use Rattle.std.proofs.Common.{◌≡◌, ℕ, Bool, true, false, Option, Some, None, List, [], ◌∷◌, ◌++◌, length, refl, sym, subst, ap, ◌∙◌, arith}
-use Rattle.std.specs.Prelude.{◌≢◌, ◌==◌, IfSome, if◌then◌else◌}
-use Rattle.std.proofs.lemmas.Bool.Decides.{nat_tests}
+use Rattle.std.proofs.Common.{◌≡◌, ℕ, Bool, true, false, Option, Some, None, List, [], ◌∷◌, ◌++◌, ◌+◌, length, refl, sym, subst, ap, ◌∙◌, arith}
+use Rattle.std.specs.Prelude.{IfSome, option_map, if◌then◌else◌}
+use Rattle.std.proofs.lemmas.List.{length-append}
+use Rattle.std.proofs.lemmas.List.Sums.{sum_by-cons}
 use Rattle.smc_words.specs.declared.number.Number.{Number}
 use Rattle.smc_shape.specs.Layout.{Layout, width_of}
 use Rattle.smc_core.specs.declared.local.Local.{Local}
-use Rattle.smc_core.specs.declared.local.Scan.{Scan}
 use Rattle.smc_region.specs.declared.held.Held.{Held}
 use Rattle.smc_region.specs.Callers.{Caller}
 use Rattle.smc_region.specs.Looks.{LooksUp, slot_found}
+use Rattle.smc_types.specs.Columns as columns
 use Rattle.smc_plan.specs.declared.leaf.Hop.{Hop}
 use Rattle.smc_plan.specs.declared.leaf.Leaf.{Leaf}
 use Rattle.smc_plan.specs.Leaves.{leaves_words}
@@ -16,7 +17,8 @@ use Rattle.smc_trace.specs.Named.{looks, reads}
 use Rattle.smc_trace.specs.Trace.{CallEnd}
 use Rattle.smc_does.specs.Does.{IsHeld}
 use Rattle.smc_does.proofs.Bridges.{look-holds}
-use Rattle.smc_visits.specs.Rows.{Follows, ReadsLeaf, RefersTo, RowOfVisit, goes_on, has_all, reads_on}
+use Rattle.smc_visits.specs.Rows.{Follows, ReadsLeaf, RefersTo, RowOfVisit, comes_to_none, drops, goes_on, has_all, reads_column, reads_on, wrong_table}
+use Rattle.smc_visits.specs.Still.{AreWhole}
 
 -- ---- look-ups
 
@@ -59,3 +61,27 @@ row-more {shape} {now} {number} {leaf} {later} {calls} {rest} words row true sam
     reads_on words reads (subst (λ (k : Layout). RowOfVisit k number later (Some row) rest) same more)
 row-more {shape} {now} {number} {leaf} {later} {calls} {rest} words row false same reads more =
     reads_on words reads (subst (λ (k : Layout). RowOfVisit k number later None rest) same more)
+
+-- ---- how long rows are
+
+leaf-whole : {shape : Layout} {number : Number} {leaf : Leaf} {words : Option (List ℕ)} {calls : List CallEnd} → ReadsLeaf shape number leaf words calls
+    → IfSome words (λ got. length got ≡ columns.width_of leaf.kind)
+leaf-whole (comes_to_none follows) = tt
+leaf-whole (wrong_table follows not) = tt
+leaf-whole (reads_column follows width long) = long
+
+row-whole : {shape : Layout} {number : Number} {leaves : List Leaf} {row : Option (List ℕ)} {calls : List CallEnd} → RowOfVisit shape number leaves row calls
+    → IfSome row (λ got. length got ≡ leaves_words leaves)
+row-whole has_all = refl
+row-whole (drops reads) = tt
+row-whole (reads_on {shape} {number} {leaf} {later} words {row} {calls} {rest} reads more) = join row (row-whole more)
+  where
+    join : (got : Option (List ℕ)) → IfSome got (λ k. length k ≡ leaves_words later) → IfSome (option_map (λ k. words ++ k) got) (λ k. length k ≡ leaves_words (leaf ∷ later))
+    join None long = tt
+    join (Some k) long =
+        length-append words k ∙ (ap (λ (n : ℕ). n + length k) (leaf-whole reads) ∙ (ap (λ (n : ℕ). columns.width_of leaf.kind + n) long
+        ∙ sym (sum_by-cons (λ (l : Leaf). columns.width_of l.kind) leaf later)))
+
+-- a whole row has as many words as its leaves
+pub rows-whole : AreWhole
+rows-whole shape number leaves row calls reads = row-whole reads

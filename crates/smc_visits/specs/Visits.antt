@@ -1,12 +1,18 @@
--- What a scan reads that takes the row of each object that it comes to.
+-- Scans that read the row of each object that they come to.
 use Rattle.std.specs.Prelude.{◌≡◌, ℕ, Option, Some, None, List, ◌++◌, option_to_list, flat_map}
-use Rattle.std.specs.List.{AllByRecursion, concat}
+use Rattle.std.specs.List.{AllByRecursion}
 use Rattle.smc_shape.specs.Layout.{Layout}
 use Rattle.smc_core.specs.declared.local.Held.{Held}
 use Rattle.smc_plan.specs.declared.leaf.Leaf.{Leaf}
 use Rattle.smc_trace.specs.Named.{begins, comes_to}
 use Rattle.smc_trace.specs.Trace.{CallEnd}
 use Rattle.smc_visits.specs.Rows.{RowOfVisit}
+
+-- a collection is scanned to its end: each of these visits is as it should be, and is made by these calls
+pub record Scans (Visit : Type 0) (calls_of : ℕ → Visit → List CallEnd) (Is : Visit → Type 0) (coll : ℕ) (visits : List Visit) (calls : List CallEnd) : Type 0 where
+  pub scan : ℕ
+  pub each : AllByRecursion Is visits
+  pub made : calls ≡ begins scan coll ++ (flat_map (calls_of scan) visits ++ comes_to scan None)
 
 -- an object that a scan came to, its row where it is whole, and the calls that read it
 pub record Visited : Type 0 where
@@ -26,14 +32,8 @@ visit_calls scan visit = comes_to scan (Some visit.held) ++ visit.calls
 abbrev pub rows_in : List Visited → List (List ℕ)
 rows_in visits = flat_map (λ visit. option_to_list visit.row) visits
 
--- a collection is scanned to its end, and the row of each object is read that the scan comes to
-pub record Scans (shape : Layout) (coll : ℕ) (leaves : List Leaf) (visits : List Visited) (calls : List CallEnd) : Type 0 where
-  pub scan : ℕ
-  pub each : AllByRecursion (IsVisit shape leaves) visits
-  pub made : calls ≡ begins scan coll ++ (flat_map (visit_calls scan) visits ++ comes_to scan None)
-
--- the same, where the words of the whole rows are put behind those that were there
-pub record TakesRows (shape : Layout) (coll : ℕ) (leaves : List Leaf) (old new : List ℕ) (calls : List CallEnd) : Type 0 where
+-- the row of each object is read that a scan comes to, and the whole ones are taken behind those that were taken before
+pub record TakesRows (shape : Layout) (coll : ℕ) (leaves : List Leaf) (Had Has : List (List ℕ) → Type 0) (calls : List CallEnd) : Type 0 where
   pub visits : List Visited
-  pub scans : Scans shape coll leaves visits calls
-  pub rows : new ≡ old ++ concat (rows_in visits)
+  pub scans : Scans Visited visit_calls (IsVisit shape leaves) coll visits calls
+  pub taken : (before : List (List ℕ)) → Had before → Has (before ++ rows_in visits)

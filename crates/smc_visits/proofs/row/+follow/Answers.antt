@@ -1,4 +1,4 @@
-use Rattle.std.proofs.Common.{refl, [], arith}
+use Rattle.std.proofs.Common.{[]}
 use Rattle.smc_does.proofs.DoesLaws.{does-nothing, does-then, stays-then}
 use Rattle.smc_visits.specs.Rows.{arrives, meets_null, misses, wrong_width}
 use Rattle.smc_visits.proofs.RowLaws.{empty, follows-on}
@@ -31,7 +31,7 @@ returns-in-Some-look-clause-done t c =
       _,
       does-then c.read-word.ensures.done (does-then c.in-Some-look.ensures.done rest.1),
       rw c.in-Some.ensures.cases.0
-      (follows-on there.same.1 c.in-Some-look.ensures.holds.1 c.if-not-has_width.ensures c.in-Some-unpack.ensures.some rest.2),
+          (follows-on there.same.1 c.in-Some-look.ensures.holds.1 c.if-not-has_width.ensures c.in-Some-unpack.ensures.some rest.2),
     )
 
 pub returns-in-Some-look-clause-stays : goal.returns-in-Some-look-clause-stays

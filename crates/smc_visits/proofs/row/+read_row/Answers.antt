@@ -1,4 +1,4 @@
-use Rattle.std.proofs.Common.{refl, []}
+use Rattle.std.proofs.Common.{[]}
 use Rattle.smc_does.proofs.DoesLaws.{does-nothing, does-then}
 use Rattle.smc_visits.specs.Rows.{drops}
 use Rattle.smc_visits.proofs.RowLaws.{row-more, row-none}

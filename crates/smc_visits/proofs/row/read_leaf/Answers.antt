@@ -1,4 +1,4 @@
-use Rattle.std.proofs.Common.{refl, ◌∙◌}
+use Rattle.std.proofs.Common.{◌∙◌}
 use Rattle.smc_does.proofs.DoesLaws.{does-then}
 use Rattle.smc_visits.specs.Rows.{comes_to_none, reads_column, wrong_table}
 use Rattle.smc_visits.proofs.row.read_leaf.Goals as goal
