@@ -1,5 +1,5 @@
 -- What expressions are, and how large they may be.
-use Rattle.std.specs.Prelude.{◌≡◌, ℕ, ◌+◌, ◌-◌, ◌*◌, ◌^◌, ◌≤◌, max, Bool, true, ◌&&◌, ◌==◌, nat_le, nat_lt, if◌then◌else◌, unsigned_abs, Option, Some, None, Result, Ok, Err}
+use Rattle.std.specs.Prelude.{◌≡◌, ℕ, ◌+◌, ◌-◌, ◌*◌, ◌^◌, ◌≤◌, max, Bool, true, false, ◌&&◌, ◌==◌, nat_le, nat_lt, if◌then◌else◌, unsigned_abs, Option, Some, None, Result, Ok, Err}
 use Rattle.smc_types.specs.declared.column.FieldType.{FieldType}
 use Rattle.smc_types.specs.declared.column.FieldType.TheVariants as of
 use Rattle.smc_types.specs.declared.number.TheConstants.{COUNT_MAX, AMOUNT_MAX, RATE_MAX}
@@ -8,7 +8,7 @@ use Rattle.smc_plan.specs.declared.fault.PlanFault.TheVariants.{Types, TooWide}
 use Rattle.smc_plan.specs.declared.kind.Extent.{Extent}
 use Rattle.smc_plan.specs.declared.kind.Kind.{Kind}
 use Rattle.smc_plan.specs.declared.kind.Kind.TheVariants.{Number, Day, Text}
-use Rattle.smc_plan.specs.declared.kind.TheConstants.{MAX_SCALE, HUNDREDTHS, SIZE_LIMIT, DAY_BOUND}
+use Rattle.smc_plan.specs.declared.kind.TheConstants.{MAX_SCALE, HUNDREDTHS, SIZE_LIMIT, SUM_LIMIT, DAY_BOUND}
 
 -- a number of at most so many units, with so many decimals
 abbrev pub extent : ℕ → ℕ → Extent
@@ -64,6 +64,29 @@ multiplied _ _ = Err Types
 abbrev pub negated : Kind → Result Kind PlanFault
 negated (Number number) = Ok (Number number)
 negated _ = Err Types
+
+-- whether an expression is a number
+abbrev pub is_number : Kind → Bool
+is_number (Number number) = true
+is_number _ = false
+
+-- whether a sum or an average can be taken of so many units
+abbrev pub is_summable : Kind → Bool
+is_summable (Number number) = nat_lt number.bound SUM_LIMIT
+is_summable _ = true
+
+-- whether two expressions can be compared: two numbers, two days or two texts
+abbrev pub is_comparable : Kind → Kind → Bool
+is_comparable (Number one) (Number other) = true
+is_comparable (Day one) (Day other) = true
+is_comparable Text Text = true
+is_comparable _ _ = false
+
+-- whether two numbers are within the limit where both are brought to the larger of their scales
+abbrev pub are_narrow : Kind → Kind → Bool
+are_narrow (Number one) (Number other) =
+    nat_lt (bound_at (larger_scale one other) one) SIZE_LIMIT && nat_lt (bound_at (larger_scale one other) other) SIZE_LIMIT
+are_narrow _ _ = true
 
 -- a bound as a `u128` counts it, where it can
 abbrev pub IsBound : Option ℕ → ℕ → Type 0

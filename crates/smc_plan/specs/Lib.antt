@@ -4,4 +4,10 @@ pub mod Leaves
 pub mod Planning
 pub mod Bounds
 pub mod Typed
+pub mod Conditions
+pub mod Outputs
 pub mod Exprs
+pub mod Conds
+pub mod Items
+pub mod Orders
+pub mod Planned

@@ -27,6 +27,14 @@ infixl 10 ◌>>=◌
 abbrev pub ◌>>=◌ : {A B : Type 0} → Planning A → (A → Planning B) → Planning B
 first >>= later = λ leaves. and_then (first leaves) (λ one. later one.part one.leaves)
 
+-- the parts that are made of the elements of a list, one after another
+abbrev pub each : {A B : Type 0} → (A → Planning B) → List A → Planning (List B)
+each plan [] = given (Ok [])
+each plan (element ∷ elements) = do
+  first ← plan element
+  rest ← each plan elements
+  given (Ok (first ∷ rest))
+
 -- a leaf that stands at this place among the others, or else behind them
 abbrev pub placed_at : List Leaf → Leaf → Option ℕ → Made ℕ
 placed_at leaves leaf None = made (leaves ++ leaf ∷ []) (length leaves)

@@ -1,5 +1,5 @@
 -- Expressions of a plan as trees alone, without where in memory their parts stand.
-use Rattle.std.specs.Prelude.{ℕ, ℤ, List}
+use Rattle.std.specs.Prelude.{ℕ, ℤ, Bool, true, false, List}
 use Rattle.smc_plan.specs.declared.kind.Kind.{Kind}
 use Rattle.smc_plan.specs.declared.typed.Kinded.{Kinded}
 use Rattle.smc_plan.specs.declared.typed.Typed.{Typed}
@@ -18,6 +18,11 @@ pub data TypedTree : Type 0 where
 pub record KindedTree : Type 0 where
   pub typed : TypedTree
   pub kind : Kind
+
+-- whether an expression is a leaf alone
+abbrev pub is_leaf : TypedTree → Bool
+is_leaf (leaf place) = true
+is_leaf _ = false
 
 -- the tree of an expression
 abbrev pub typed_tree : Typed → TypedTree

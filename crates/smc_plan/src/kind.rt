@@ -1,6 +1,6 @@
 //! What an expression is, and how large it may be.
 ghost use Rattle.std.specs.Prelude.{◌≡◌, ℕ, ◌+◌, ◌≤◌, nat_lt, IsTrue, IfOk};
-ghost use Rattle.smc_plan.specs.Bounds.{IsBound, added, bound_at, bounded, is_extent, is_within, joined, kind_of, multiplied, negated};
+ghost use Rattle.smc_plan.specs.Bounds.{IsBound, added, are_narrow, bound_at, bounded, is_comparable, is_number, is_summable, is_within, joined, kind_of, multiplied, negated};
 ghost use Rattle.smc_plan.specs.declared.kind.Kind.TheVariants.{Number, Day as OfDay};
 
 use crate::PlanFault;
@@ -100,8 +100,8 @@ fn bound_at(scale: u32, number: Extent) -> Option<u128>
     number.bound.checked_mul(power)
 }
 
-/// Whether a number that is brought to a scale is within the limit.
-pub(crate) fn is_narrow_at(scale: u32, number: Extent) -> bool
+// Whether a number that is brought to a scale is within the limit.
+fn is_narrow_at(scale: u32, number: Extent) -> bool
     requires larger { number.scale ≤ scale }
     requires few { scale ≤ MAX_SCALE }
     ensures { result ≡ nat_lt (bound_at scale number) SIZE_LIMIT }
@@ -180,5 +180,49 @@ pub(crate) fn negated(kind: Kind) -> Result<Kind, PlanFault>
     match kind {
         Kind::Number(number) => Ok(Kind::Number(number)),
         _ => Err(PlanFault::Types),
+    }
+}
+
+/// Whether an expression is a number.
+pub(crate) fn is_number(kind: Kind) -> bool
+    ensures { result ≡ is_number kind }
+{
+    matches!(kind, Kind::Number(_))
+}
+
+/// Whether a sum or an average can be taken of so many units.
+pub(crate) fn is_summable(kind: Kind) -> bool
+    ensures { result ≡ is_summable kind }
+{
+    match kind {
+        Kind::Number(number) => number.bound < SUM_LIMIT,
+        _ => true,
+    }
+}
+
+/// Whether two expressions can be compared.
+pub(crate) fn is_comparable(one: Kind, other: Kind) -> bool
+    ensures { result ≡ is_comparable one other }
+{
+    match (one, other) {
+        (Kind::Number(_), Kind::Number(_)) => true,
+        (Kind::Day { .. }, Kind::Day { .. }) => true,
+        (Kind::Text, Kind::Text) => true,
+        _ => false,
+    }
+}
+
+/// Whether two numbers are within the limit where both are brought to the larger of their scales.
+pub(crate) fn are_narrow(one: Kind, other: Kind) -> bool
+    requires one { IsTrue (is_within one) }
+    requires other { IsTrue (is_within other) }
+    ensures { result ≡ are_narrow one other }
+{
+    match (one, other) {
+        (Kind::Number(one), Kind::Number(other)) => {
+            let scale = one.scale.max(other.scale);
+            is_narrow_at(scale, one) && is_narrow_at(scale, other)
+        }
+        _ => true,
     }
 }

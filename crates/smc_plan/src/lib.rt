@@ -1,25 +1,39 @@
 //! Plans: what a query means over a catalog, with each path resolved and each expression typed.
 //!
-//! `kind` says what an expression is and how large it may be, `typed` has the expressions of a plan, and `expr` makes them
-//! of those of a query. `leaf` has what a path of a query comes to, and `leaves` the different ones; `table` finds tables and
-//! fields by name, and `path` follows the names of a path. `fault` says why a query has no plan. Below stand `smc_query` with
-//! the query and its tree, and `smc_types` with the catalog; above, the crates that answer queries.
+//! `plan` has the plan of a query, and `query` makes it, part by part in the order of the text: `cond` the condition, `expr`
+//! an expression, `item` the output columns, `order` the sort keys. `typed`, `condition` and `output` have the parts of a plan,
+//! `kind` says what an expression is and how large it may be. `leaf` has what a path comes to, `leaves` the different ones;
+//! `path` follows the names of a path, and `table` finds tables and fields by name. `fault` says why a query has no plan.
+//! Below stand `smc_query` with the query and its tree, and `smc_types` with the catalog; above, the crates that answer queries.
 //!
-//! What expressions are, with their bounds, is defined in `specs/Bounds.antt`; what an expression of a query comes to in
-//! `specs/Exprs.antt`, a path in `specs/Leaves.antt`, and the names of a catalog in `specs/Tables.antt`.
+//! Callers may rely on it that `plan_query` gives the plan or the first fault of `specs/Planned.antt`. What expressions are,
+//! with their bounds, is defined in `specs/Bounds.antt`; what an expression of a query comes to in `Exprs.antt`, a condition in
+//! `Conds.antt`, an output column in `Items.antt`, a sort key in `Orders.antt`, a path in `Leaves.antt`, and the names of a
+//! catalog in `Tables.antt`. `Typed.antt`, `Conditions.antt` and `Outputs.antt` have the parts of a plan as trees.
 #![tactic(auto)]
 
+mod cond;
+mod condition;
 mod expr;
 mod fault;
+mod item;
 mod kind;
 mod leaf;
 mod leaves;
+mod order;
+mod output;
 mod path;
+mod plan;
+mod query;
 mod table;
 mod typed;
 
+pub use condition::TypedCond;
 pub use fault::PlanFault;
 pub use kind::{DAY_BOUND, Extent, HUNDREDTHS, Kind, MAX_SCALE, SIZE_LIMIT, SUM_LIMIT};
 pub use leaf::{Hop, Hops, Leaf};
 pub use leaves::Leaves;
+pub use output::{Output, Outputs};
+pub use plan::{OrderKey, OrderKeys, Places, Plan};
+pub use query::plan_query;
 pub use typed::{Kinded, Typed};
