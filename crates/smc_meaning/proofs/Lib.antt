@@ -1,1 +1,3 @@
 pub mod BoundLaws
+pub mod OperandLaws
+pub mod TreeSizes

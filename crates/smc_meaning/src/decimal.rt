@@ -34,7 +34,8 @@ impl Decimal {
     /// The sum, at the larger scale.
     pub(crate) fn plus(self, other: Decimal) -> Decimal
         requires { CanAdd self other }
-        ensures { decimal_cell result ≡ plus (decimal_cell self) (decimal_cell other) }
+        ensures value { decimal_cell result ≡ plus (decimal_cell self) (decimal_cell other) }
+        ensures small { unsigned_abs result.units < SIZE_LIMIT }
     {
         let scale = self.scale.max(other.scale);
         Decimal {
@@ -46,7 +47,8 @@ impl Decimal {
     /// The difference, at the larger scale.
     pub(crate) fn less(self, other: Decimal) -> Decimal
         requires { CanAdd self other }
-        ensures { decimal_cell result ≡ less (decimal_cell self) (decimal_cell other) }
+        ensures value { decimal_cell result ≡ less (decimal_cell self) (decimal_cell other) }
+        ensures small { unsigned_abs result.units < SIZE_LIMIT }
     {
         let scale = self.scale.max(other.scale);
         Decimal {
@@ -58,7 +60,8 @@ impl Decimal {
     /// The product, with the decimals of both.
     pub(crate) fn times(self, other: Decimal) -> Decimal
         requires { CanMultiply self other }
-        ensures { decimal_cell result ≡ times (decimal_cell self) (decimal_cell other) }
+        ensures value { decimal_cell result ≡ times (decimal_cell self) (decimal_cell other) }
+        ensures small { unsigned_abs result.units < SIZE_LIMIT }
     {
         Decimal {
             units: self.units * other.units,

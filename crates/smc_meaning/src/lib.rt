@@ -10,5 +10,7 @@
 mod decimal;
 pub mod laws;
 mod leaf;
+mod value;
 
 pub use decimal::Decimal;
+pub use value::{day_at, number_at};
