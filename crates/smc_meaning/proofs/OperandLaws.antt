@@ -76,7 +76,7 @@ numbers_both left right limits gives =
     numbers_added both.one both.other left right limits both.left_is both.right_is both.made_is
 
 -- a number of an extent, brought to a larger scale
-size_within : (larger : ℕ) (limits : Extent) (found : Decimal) → HasExtent limits found.units found.scale → size_at larger found ≤ bound_at larger limits
+pub size_within : (larger : ℕ) (limits : Extent) (found : Decimal) → HasExtent limits found.units found.scale → size_at larger found ≤ bound_at larger limits
 size_within larger limits found has = rw has.scale_is (mul-le-mul has.within (omega arith))
 
 -- two numbers whose sum is within the limits can be added

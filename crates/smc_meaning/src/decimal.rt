@@ -1,8 +1,11 @@
 //! Numbers with decimals, and their sums and products.
 ghost use Rattle.std.specs.Prelude.{◌≡◌, ◌<◌, ◌≤◌, ◌-◌, ◌*◌, ◌^◌, pos, ◌*ℤ◌, unsigned_abs};
 ghost use Rattle.smc_plan.specs.declared.kind.TheConstants.{MAX_SCALE, SIZE_LIMIT};
+ghost use Rattle.smc_meaning.specs.Comparing.{compare};
 ghost use Rattle.smc_meaning.specs.Values.{less, negative, plus, times, units_at};
-ghost use Rattle.smc_meaning.specs.Decimals.{CanAdd, CanMultiply, decimal_cell, size_at};
+ghost use Rattle.smc_meaning.specs.Decimals.{CanAdd, CanMeet, CanMultiply, decimal_cell, size_at};
+
+use std::cmp::Ordering;
 
 /// So many units, of which ten to the power of `scale` make one.
 #[derive(Clone, Copy, Debug)]
@@ -78,5 +81,13 @@ impl Decimal {
             units: -self.units,
             scale: self.scale,
         }
+    }
+    /// How two numbers compare.
+    pub(crate) fn compare(self, other: Decimal) -> Ordering
+        requires { CanMeet self other }
+        ensures { result ≡ compare (decimal_cell self) (decimal_cell other) }
+    {
+        let scale = self.scale.max(other.scale);
+        self.units_at(scale).cmp(&other.units_at(scale))
     }
 }
