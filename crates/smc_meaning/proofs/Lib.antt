@@ -1,1 +1,5 @@
 pub mod BoundLaws
+pub mod OperandLaws
+pub mod TreeSizes
+pub mod TextOrders
+pub mod SideLaws

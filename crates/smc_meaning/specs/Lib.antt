@@ -1,3 +1,7 @@
 pub mod Values
 pub mod Kinds
 pub mod Decimals
+pub mod Texts
+pub mod Comparing
+pub mod Kept
+pub mod Conditions

@@ -8,7 +8,13 @@
 #![tactic(auto)]
 
 mod decimal;
+mod filter;
 pub mod laws;
 mod leaf;
+mod text;
+mod value;
 
 pub use decimal::Decimal;
+pub use filter::kept;
+pub use text::TextIn;
+pub use value::{Sort, day_at, number_at, sort_at, text_at};
