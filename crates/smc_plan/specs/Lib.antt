@@ -13,5 +13,6 @@ pub mod Orders
 pub mod Planned
 pub mod Edits
 pub mod Kinds
+pub mod Values
 pub mod Laws
 pub mod Worked
