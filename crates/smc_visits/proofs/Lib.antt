@@ -3,3 +3,4 @@ pub mod VisitLaws
 pub mod EditLaws
 pub mod StillLaws
 pub mod FitLaws
+pub mod TakenLaws

@@ -1,5 +1,5 @@
 //! Edits of the objects of a collection, each as is decided by its row.
-ghost use Rattle.std.specs.Prelude.{◌≡◌, ℕ, ◌+◌, ◌-◌, ◌^◌, ◌<◌, ◌++◌, List, Option, length};
+ghost use Rattle.std.specs.Prelude.{◌≡◌, ℕ, ◌+◌, ◌-◌, ◌^◌, ◌<◌, ◌≤◌, ◌++◌, List, Option, length};
 ghost use Rattle.std.specs.List.{AllByRecursion};
 ghost use Rattle.smc_shape.specs.Layout.{width_of};
 ghost use Rattle.smc_core.specs.declared.phase.Phase.TheVariants.{Idle};
@@ -36,7 +36,7 @@ pub trait DecideEdit {
     // How many words each row has.
     ghost words: { Self → ℕ };
 
-    // How many words the record of each object has.
+    // The fields below this one may be written.
     ghost width: { Self → ℕ };
 
     // What is decided by a row.
@@ -116,7 +116,7 @@ fn edit_one<E: DecideEdit>(
     requires fits { AllByRecursion FitsRecord leaves.now }
     requires long { length row.old ≡ leaves_words leaves.now }
     requires words { leaves_words leaves.now ≡ E.words by.now }
-    requires width { width_of s.old.shape held.number.coll ≡ E.width by.now }
+    requires width { E.width by.now ≤ width_of s.old.shape held.number.coll }
     ensures done { (got : Option (List ℕ)) × (calls : List CallEnd) × RowOfVisit s.old.shape held.number leaves.now got calls
         × (result.0 ≡ edit_of (E.edit by.now) got) × Does s.old s.new (calls ++ edit_calls held.number result.0 result.1) }
     ensures stays { Stays s.old s.new }
@@ -143,7 +143,7 @@ fn edit_all<E: DecideEdit>(
     requires fits { AllByRecursion FitsRecord leaves.now }
     requires long { length row.old ≡ leaves_words leaves.now }
     requires words { leaves_words leaves.now ≡ E.words by.now }
-    requires width { width_of s.old.shape c ≡ E.width by.now }
+    requires width { E.width by.now ≤ width_of s.old.shape c }
     ensures done { DoesSome s.old s.new (EditsRows s.old.shape c leaves.now (E.edit by.now) result) }
     ensures idle { s.new.local.stand.phase ≡ Idle }
 {
@@ -178,7 +178,7 @@ pub fn edit_rows<E: DecideEdit>(
     requires fits { AllByRecursion FitsRecord leaves.now }
     requires long { length row.old ≡ leaves_words leaves.now }
     requires words { leaves_words leaves.now ≡ E.words by.now }
-    requires width { width_of pass.shape c ≡ E.width by.now }
+    requires width { E.width by.now ≤ width_of pass.shape c }
     ensures done { DoesSome pass result.0 (InSection (EditsRows pass.shape c leaves.now (E.edit by.now) result.1)) }
     ensures home { IsSame pass result.0 }
 {
