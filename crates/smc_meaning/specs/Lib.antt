@@ -5,3 +5,7 @@ pub mod Texts
 pub mod Comparing
 pub mod Kept
 pub mod Conditions
+pub mod Sorting
+pub mod Groups
+pub mod Answers
+pub mod Worked

@@ -6,6 +6,7 @@ ghost use Rattle.smc_plan.specs.declared.kind.Kind.{Kind};
 ghost use Rattle.smc_plan.specs.declared.leaf.Leaf.{Leaf};
 ghost use Rattle.smc_meaning.specs.Values.{value_of};
 ghost use Rattle.smc_meaning.specs.Kinds.{IsOf, kind_of_typed};
+ghost use Rattle.smc_meaning.specs.Worked.{AveragesAreRounded, GroupsAreOrdered, NoRowsAreOneGroup, TextsAndFolds, TiesGoByTheColumns};
 
 /// In every row the value of an expression is one of its kind, within the bound of that, which is below the limit.
 pub fn values_are_bounded()
@@ -13,4 +14,13 @@ pub fn values_are_bounded()
         → kind_of_typed leaves typed ≡ Ok kind → IsOf kind (value_of leaves typed words) }
     ensures limit { (leaves : List Leaf) (typed : TypedTree) (kind : Kind)
         → kind_of_typed leaves typed ≡ Ok kind → IsTrue (is_within kind) }
+{}
+
+/// Answers over a few rows.
+pub fn worked()
+    ensures averages { AveragesAreRounded }
+    ensures no_rows { NoRowsAreOneGroup }
+    ensures order { GroupsAreOrdered }
+    ensures ties { TiesGoByTheColumns }
+    ensures texts { TextsAndFolds }
 {}
