@@ -1,5 +1,5 @@
 -- What it is to load the rows of a table: the objects that are added, and the keys that are put.
-use Rattle.std.specs.Prelude.{◌≡◌, ℕ, Bool, true, false, List, [], ◌∷◌, ◌++◌, take, slice_index, Option, Some, None, Result, Ok, Err, ⊤}
+use Rattle.std.specs.Prelude.{◌≡◌, ◌⊎◌, ℕ, Bool, true, false, List, [], ◌∷◌, ◌++◌, take, slice_index, Option, Some, None, Result, Ok, Err}
 use Rattle.std.specs.List.{flat_map}
 use Rattle.smc_words.specs.Number.{packed_number}
 use Rattle.smc_words.specs.declared.number.Number.{Number}
@@ -70,8 +70,13 @@ pub record RefusesRow (schema : Schema) (coll : ℕ) (keys : Entries) (words : L
   pub cause : Full
   pub adds : AddsRow coll (record_of schema.columns keys words) (Err cause) calls
 
+-- an object of these words may be added, and nothing else is done
+abbrev pub MayAddRow : ℕ → List ℕ → List CallEnd → Type 0
+MayAddRow coll words calls = (calls ≡ []) ⊎ ((number : Number) × AddsRow coll words (Ok number) calls)
+
 -- how the loading of one row ends
 abbrev pub RowEnds : Result (Unit {0}) RowFault → Schema → ℕ → ℕ → Entries → Entries → List ℕ → Caller → Caller → Type 0
 RowEnds (Ok _) schema table coll old new words before after = DoesSome before after (LoadsRow schema table coll old new words)
 RowEnds (Err row.Full) schema table coll old new words before after = (new ≡ old) × DoesSome before after (RefusesRow schema coll old words)
-RowEnds (Err row.NoMemory) schema table coll old new words before after = DoesSome before after (λ calls. ⊤)
+RowEnds (Err row.NoMemory) schema table coll old new words before after =
+    (new ≡ old) × DoesSome before after (MayAddRow coll (record_of schema.columns old words))

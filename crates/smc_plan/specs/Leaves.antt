@@ -1,5 +1,5 @@
 -- The leaves of a plan: what its paths come to, each once.
-use Rattle.std.specs.Prelude.{ℕ, Bool, true, false, ◌&&◌, ◌==◌, if◌then◌else◌, List, [], ◌∷◌, ◌++◌, length, sum_by, position, Option, Some, None, Result, Ok, Err}
+use Rattle.std.specs.Prelude.{ℕ, Bool, true, false, ◌&&◌, ◌==◌, if◌then◌else◌, List, [], ◌∷◌, ◌++◌, sum_by, position, Option, Some, None, Result, Ok, Err}
 use Rattle.std.specs.Cmp.Lexicographic.{pointwise}
 use Rattle.smc_query.specs.Trees.{PathTree}
 use Rattle.smc_types.specs.Columns.{width_of, is_reference}
@@ -82,17 +82,3 @@ place_of leaves leaf = position (λ other. same_leaf other leaf) leaves
 -- how many words leaves take in a row
 abbrev pub leaves_words : List Leaf → ℕ
 leaves_words leaves = sum_by (λ leaf. width_of leaf.kind) leaves
-
--- a part of a plan, and the leaves of the plan as far as this part
-pub record Made (A : Type 0) : Type 0 where
-  pub leaves : List Leaf
-  pub part : A
-
--- a leaf that stands at this place among the others, or else behind them
-abbrev pub placed_at : List Leaf → Leaf → Option ℕ → Made ℕ
-placed_at leaves leaf None = record { leaves = leaves ++ leaf ∷ []; part = length leaves }
-placed_at leaves leaf (Some place) = record { leaves = leaves; part = place }
-
--- the leaves with this one among them, and its place
-abbrev pub placed : List Leaf → Leaf → Made ℕ
-placed leaves leaf = placed_at leaves leaf (place_of leaves leaf)

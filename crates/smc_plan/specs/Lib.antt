@@ -1,3 +1,9 @@
 pub mod Answers
 pub mod Tables
 pub mod Leaves
+pub mod Planning
+pub mod Bounds
+pub mod Typed
+pub mod Conditions
+pub mod Exprs
+pub mod Conds

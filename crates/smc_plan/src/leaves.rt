@@ -1,5 +1,6 @@
 ghost use Rattle.std.specs.Prelude.{◌≡◌, ◌<◌, [], length, IfOk, IfSome};
-ghost use Rattle.smc_plan.specs.Leaves.{leaves_words, place_of, placed};
+ghost use Rattle.smc_plan.specs.Leaves.{leaves_words, place_of};
+ghost use Rattle.smc_plan.specs.Planning.{made, placed};
 
 use crate::Leaf;
 use crate::leaf::same_leaf;
@@ -63,7 +64,7 @@ impl Leaves {
     /// The place of a leaf, which is put behind the others where it is none of them. A row that would have more words than
     /// a `u32` counts has no room.
     pub(crate) fn place(&mut self, leaf: Leaf) -> Result<usize, NoMemory>
-        ensures { IfOk result (λ place. placed self.old leaf ≡ record { leaves = self.new; part = place }) }
+        ensures { IfOk result (λ place. placed self.old leaf ≡ made self.new place) }
     {
         if let Some(place) = place_of(self.leaves.as_slice(), &leaf) {
             return Ok(place);

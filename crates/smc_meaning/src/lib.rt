@@ -1,0 +1,14 @@
+//! What a query means: the definition of its answer over rows, and a plain evaluator that gives it.
+//!
+//! `decimal` has numbers with decimals, and `value` gives the value of an expression in a row. A row is the words of all
+//! leaves of a plan, one leaf behind the other. Below stand `smc_plan` with plans and `smc_types` with columns; above, the
+//! crates that answer queries fast, whose answers are those of the definitions here.
+//!
+//! The value of an expression is defined in `specs/Values.antt`, and what an expression is in `Kinds.antt`.
+#![tactic(auto)]
+
+mod decimal;
+pub mod laws;
+mod leaf;
+
+pub use decimal::Decimal;
