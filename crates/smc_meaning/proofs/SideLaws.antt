@@ -1,5 +1,5 @@
 -- The two sides of a comparison.
-use Rattle.std.proofs.Common.{◌≡◌, ℕ, ◌+◌, ◌*◌, ◌<◌, max, Bool, true, false, cond, ◌&&◌, ℤ, unsigned_abs, IsTrue, nat_le, nat_lt, List, Option, None, Some, slice_get, Result, Ok, Err, refl, sym, ap, ◌∙◌, subst, arith, rules}
+use Rattle.std.proofs.Common.{◌≡◌, ℕ, ◌+◌, ◌*◌, ◌-◌, ◌<◌, max, Bool, true, false, cond, ◌&&◌, ℤ, unsigned_abs, IsTrue, nat_le, nat_lt, List, Option, None, Some, slice_get, Result, Ok, Err, refl, sym, ap, ◌∙◌, subst, arith, rules}
 use Rattle.std.proofs.lemmas.Bool.Decides.{nat_tests}
 use Rattle.smc_plan.specs.Answers.{and_then}
 use Rattle.smc_plan.specs.Bounds.{added, are_narrow, bound_at, bounded, is_comparable, joined, kind_of, larger_scale, multiplied, negated, extent}
@@ -160,13 +160,34 @@ narrow_too : (one other first second : Kind) → one ≡ first → other ≡ sec
 narrow_too one other first second is also narrow = cc
 
 -- the values of two sides that are numbers can be compared
-pub can_meet : (leaves : List Leaf) (left right : TypedTree) (words : List ℕ) (one other : Decimal) → CanCompare leaves left right → sort_of leaves left ≡ OfNumber
-    → value_of leaves left words ≡ decimal_cell one → value_of leaves right words ≡ decimal_cell other → CanMeet one other
-can_meet leaves left right words one other can is left_is right_is =
+pub can_meet : (leaves : List Leaf) (left right : TypedTree) (words other_words : List ℕ) (one other : Decimal) → CanCompare leaves left right → sort_of leaves left ≡ OfNumber
+    → value_of leaves left words ≡ decimal_cell one → value_of leaves right other_words ≡ decimal_cell other → CanMeet one other
+can_meet leaves left right words other_words one other can is left_is right_is =
     let sides = numbers leaves left right can is in
     let first = can.left_is ∙ ap Ok sides.one_is in
     let second = can.right_is ∙ ap Ok sides.other_is in
     let narrow : are_narrow (Number sides.left) (Number sides.right) ≡ true = narrow_too can.one can.other (Number sides.left) (Number sides.right) sides.one_is sides.other_is can.narrow in
     meeting sides.left sides.right one other
-    (decimal_has leaves left words sides.left one first left_is) (decimal_has leaves right words sides.right other second right_is)
+    (decimal_has leaves left words sides.left one first left_is) (decimal_has leaves right other_words sides.right other second right_is)
     (number_limited leaves left sides.left first) (number_limited leaves right sides.right second) (narrow_is sides.left sides.right narrow)
+
+-- ---- an expression in two rows
+
+-- an expression of some kind can be compared with itself
+bound-same : (limits : Extent) → bound_at (larger_scale limits limits) limits ≡ limits.bound
+bound-same limits =
+    let none : max limits.scale limits.scale - limits.scale ≡ 0 = omega arith in
+    rw none (omega arith)
+
+self_narrow : (limits : Extent) → limits.bound < SIZE_LIMIT → are_narrow (Number limits) (Number limits) ≡ true
+self_narrow limits small = let same = bound-same limits in grind (arith, nat_tests)
+
+self_compared : (leaves : List Leaf) (tree : TypedTree) (kind : Kind) → kind_of_typed leaves tree ≡ Ok kind → (is_comparable kind kind ≡ true) × (are_narrow kind kind ≡ true)
+self_compared leaves tree (Number limits) is = (refl, self_narrow limits (number_limited leaves tree limits is).small)
+self_compared leaves tree (Day bound) is = (refl, refl)
+self_compared leaves tree Text is = (refl, refl)
+
+pub self_can : (leaves : List Leaf) (tree : TypedTree) (kind : Kind) → kind_of_typed leaves tree ≡ Ok kind → CanCompare leaves tree tree
+self_can leaves tree kind is =
+    let compared = self_compared leaves tree kind is in
+    record { one = kind; other = kind; left_is = is; right_is = is; comparable = compared.0; narrow = compared.1 }

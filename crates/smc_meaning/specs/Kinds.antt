@@ -39,6 +39,11 @@ kind_of_typed leaves (typed.difference left right) = kind_of_both added (kind_of
 kind_of_typed leaves (typed.product left right) = kind_of_both multiplied (kind_of_typed leaves left) (kind_of_typed leaves right)
 kind_of_typed leaves (typed.minus of) = and_then (kind_of_typed leaves of) negated
 
+-- the expression is a number, a day or a text
+pub record IsTyped (leaves : List Leaf) (typed : TypedTree) : Type 0 where
+  pub kind : Kind
+  pub kind_is : kind_of_typed leaves typed ≡ Ok kind
+
 -- the expression is a number
 pub record IsNumber (leaves : List Leaf) (typed : TypedTree) : Type 0 where
   pub extent : Extent

@@ -1,3 +1,4 @@
+pub mod Rows
 pub mod Values
 pub mod Kinds
 pub mod Decimals
@@ -5,6 +6,7 @@ pub mod Texts
 pub mod Comparing
 pub mod Kept
 pub mod Conditions
+pub mod Sound
 pub mod Sorting
 pub mod Groups
 pub mod Answers
