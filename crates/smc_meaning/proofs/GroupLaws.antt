@@ -1,6 +1,6 @@
 -- Rows that are chosen one after another, and the leaves by which they are grouped.
 use Rattle.std.proofs.Common.{◌≡◌, ℕ, zero, suc, ◌+◌, ◌<◌, Bool, ◌||◌, true, false, cond, List, [], ◌∷◌, ◌++◌, length, take, get_or, filter, All, Some, slice_get, Ok, refl, sym, ap, ◌∙◌, append-nil, append_assoc, arith}
-use Rattle.std.specs.List.{list_any}
+use Rattle.std.specs.List.{AllByRecursion, list_any}
 use Rattle.std.proofs.lemmas.List.{take_more}
 use Rattle.std.proofs.lemmas.List.Elements.{filter_more}
 use Rattle.std.proofs.lemmas.List.Folds.{list_any_more}
@@ -11,9 +11,10 @@ use Rattle.smc_plan.specs.declared.kind.Kind.{Kind}
 use Rattle.smc_plan.specs.declared.leaf.Leaf.{Leaf}
 use Rattle.smc_plan.specs.Planned.{Planned}
 use Rattle.smc_meaning.specs.Groups.{first_rows, same_key}
-use Rattle.smc_meaning.specs.Kinds.{IsTyped, kind_of_leaf}
+use Rattle.smc_plan.specs.Kinds.{leaf_kind}
+use Rattle.smc_meaning.specs.Kinds.{HasKind}
 use Rattle.smc_meaning.specs.Rows.{RowList}
-use Rattle.smc_meaning.specs.Sound.{AreLeaves}
+use Rattle.smc_plan.specs.Kinds.{IsPlace}
 
 -- ---- chosen rows
 
@@ -99,20 +100,17 @@ first_none plan rows old place row before found some =
 
 -- ---- leaves at places
 
-all_first : (leaves : List Leaf) (place : ℕ) (rest : List ℕ) → AreLeaves leaves (place ∷ rest) → place < length leaves
-all_first leaves place rest all = all 0 place (omega arith)
-
 -- a leaf of a plan is of some kind
-kind_at : (leaves : List Leaf) (place : ℕ) → place < length leaves → (kind : Kind) × (kind_of_leaf (slice_get leaves place) ≡ Ok kind)
+kind_at : (leaves : List Leaf) (place : ℕ) → place < length leaves → (kind : Kind) × (leaf_kind (slice_get leaves place) ≡ Ok kind)
 kind_at [] place within = absurd (omega arith)
 kind_at (leaf ∷ leaves) zero within = (kind_of leaf.kind, refl)
 kind_at (leaf ∷ leaves) (suc place) within = kind_at leaves place (omega arith)
 
-pub typed_leaf : (leaves : List Leaf) (place : ℕ) → place < length leaves → IsTyped leaves (typed.leaf place)
+pub typed_leaf : (leaves : List Leaf) (place : ℕ) → place < length leaves → HasKind leaves (typed.leaf place)
 typed_leaf leaves place within = let at = kind_at leaves place within in record { kind = at.0; kind_is = at.1 }
 
-pub first_leaf : (leaves : List Leaf) (places : List ℕ) (place : ℕ) (rest : List ℕ) → places ≡ place ∷ rest → AreLeaves leaves places → IsTyped leaves (typed.leaf place)
-first_leaf leaves places place rest is all = typed_leaf leaves place (all_first leaves place rest (rw is at all))
+pub first_leaf : (leaves : List Leaf) (places : List ℕ) (place : ℕ) (rest : List ℕ) → places ≡ place ∷ rest → AllByRecursion (IsPlace leaves) places → HasKind leaves (typed.leaf place)
+first_leaf leaves places place rest is all = let whole = rw is at all in typed_leaf leaves place whole.0
 
-pub later_leaves : (leaves : List Leaf) (places : List ℕ) (place : ℕ) (rest : List ℕ) → places ≡ place ∷ rest → AreLeaves leaves places → AreLeaves leaves rest
-later_leaves leaves places place rest is all = let whole = rw is at all in λ k d within. whole (suc k) d (omega (arith, within))
+pub later_leaves : (leaves : List Leaf) (places : List ℕ) (place : ℕ) (rest : List ℕ) → places ≡ place ∷ rest → AllByRecursion (IsPlace leaves) places → AllByRecursion (IsPlace leaves) rest
+later_leaves leaves places place rest is all = let whole = rw is at all in whole.1

@@ -5,8 +5,6 @@ pub mod Decimals
 pub mod Texts
 pub mod Comparing
 pub mod Kept
-pub mod Conditions
-pub mod Sound
 pub mod Sorting
 pub mod Groups
 pub mod Answers
