@@ -18,17 +18,24 @@ use Rattle.smc_meaning.specs.Values.{Cell, number, day, text, units_at, value_of
 
 -- ---- groups
 
+-- the values of the leaves at these places
+abbrev pub values_at : List Leaf → List ℕ → List ℕ → List Cell
+values_at leaves places words = map (λ place. value_of leaves (leaf place) words) places
+
 -- the values of a row by which rows are grouped
 abbrev pub key_of : Planned → List ℕ → List Cell
-key_of plan words = map (λ place. value_of plan.leaves (leaf place) words) plan.by
+key_of plan words = values_at plan.leaves plan.by words
 
 -- whether two values are one
 abbrev pub same_cell : Cell → Cell → Bool
 same_cell one other = is_eq (compare one other)
 
+abbrev pub same_cells : List Cell → List Cell → Bool
+same_cells one other = pointwise same_cell one other
+
 -- whether two rows belong to one group
 abbrev pub same_key : Planned → List ℕ → List ℕ → Bool
-same_key plan one other = pointwise same_cell (key_of plan one) (key_of plan other)
+same_key plan one other = same_cells (key_of plan one) (key_of plan other)
 
 -- the rows whose key neither these rows before them have, nor one between
 abbrev pub first_rows : Planned → (before rows : List (List ℕ)) → List (List ℕ)

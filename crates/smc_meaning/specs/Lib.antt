@@ -1,10 +1,10 @@
+pub mod Rows
 pub mod Values
 pub mod Kinds
 pub mod Decimals
 pub mod Texts
 pub mod Comparing
 pub mod Kept
-pub mod Conditions
 pub mod Sorting
 pub mod Groups
 pub mod Answers

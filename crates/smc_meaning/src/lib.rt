@@ -7,14 +7,19 @@
 //! The value of an expression is defined in `specs/Values.antt`, and what an expression is in `Kinds.antt`.
 #![tactic(auto)]
 
+mod comparing;
 mod decimal;
 mod filter;
+mod group;
 pub mod laws;
 mod leaf;
+mod rows;
 mod text;
 mod value;
 
+pub use comparing::compare_rows;
 pub use decimal::Decimal;
 pub use filter::kept;
+pub use rows::Rows;
 pub use text::TextIn;
 pub use value::{Sort, day_at, number_at, sort_at, text_at};
