@@ -22,5 +22,6 @@ mod tests;
 
 pub use fault::LoadFault;
 pub use files::load;
+pub use references::place_of;
 pub use rows::{RowFault, load_row};
 pub use table::load_rows;
