@@ -77,9 +77,13 @@ pub record RefusesRow (schema : Schema) (coll : ℕ) (keys : Entries) (words : L
 abbrev pub MayAddRow : ℕ → List ℕ → List CallEnd → Type 0
 MayAddRow coll words calls = (calls ≡ []) ⊎ ((number : Number) × AddsRow coll words (Ok number) calls)
 
+-- the row is added as the object of this number
+abbrev pub LoadsAs : Schema → ℕ → ℕ → Entries → Entries → List ℕ → Number → List CallEnd → Type 0
+LoadsAs schema table coll old new words number calls = (loads : LoadsRow schema table coll old new words calls) × (loads.number ≡ number)
+
 -- how the loading of one row ends
-abbrev pub RowEnds : Result (Unit {0}) RowFault → Schema → ℕ → ℕ → Entries → Entries → List ℕ → Caller → Caller → Type 0
-RowEnds (Ok _) schema table coll old new words before after = DoesSome before after (LoadsRow schema table coll old new words)
+abbrev pub RowEnds : Result Number RowFault → Schema → ℕ → ℕ → Entries → Entries → List ℕ → Caller → Caller → Type 0
+RowEnds (Ok number) schema table coll old new words before after = DoesSome before after (LoadsAs schema table coll old new words number)
 RowEnds (Err row.Full) schema table coll old new words before after = (new ≡ old) × DoesSome before after (RefusesRow schema coll old words)
 RowEnds (Err row.NoMemory) schema table coll old new words before after =
     (new ≡ old) × DoesSome before after (MayAddRow coll (record_of schema.columns old words))

@@ -83,8 +83,8 @@ fn key_at(words: &[u64], columns: &[Column], by: u32) -> u64
     words.get(place as usize).copied().unwrap_or(0)
 }
 
-// Where the words of a column of the file begin in a record.
-fn place_of(columns: &[Column], at: u32) -> u32
+/// Where the words of a column of the file begin in a record.
+pub fn place_of(columns: &[Column], at: u32) -> u32
     requires { columns_width columns.now ≤ WIDTH_MAX }
     ensures { result ≡ loading.place_of columns.now at }
 {

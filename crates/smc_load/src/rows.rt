@@ -47,7 +47,7 @@ fn first_word(words: &[u64]) -> u64
     words.get(0).copied().unwrap_or(0)
 }
 
-/// Loads the row of these words: adds its object, in a section of its own, and puts its key.
+/// Loads the row of these words: adds its object, in a section of its own, and puts its key. Answers the object's number.
 ///
 /// The words of the references are put behind those of the row, each the number that stands in `keys` under its key, null
 /// where there is none. Where the object is refused the pass advances three times and tries once more.
@@ -59,7 +59,7 @@ pub fn load_row(
     coll: u8,
     keys: &mut Keys,
     words: &mut Vec<u64>,
-) -> (Pass, Result<(), RowFault>)
+) -> (Pass, Result<Number, RowFault>)
     requires here { IsPassOf region.now pass }
     requires coll { coll < length region.now.about.shape.colls }
     requires width { columns_width schema.now.columns ≡ width_of region.now.about.shape coll }
@@ -75,7 +75,7 @@ pub fn load_row(
         return (pass, Err(RowFault::Full));
     };
     match put_key(keys, schema.keyed, table, key, number) {
-        Ok(()) => (pass, Ok(())),
+        Ok(()) => (pass, Ok(number)),
         Err(_) => (pass, Err(RowFault::NoMemory)),
     }
 }

@@ -1,5 +1,5 @@
-use Rattle.std.proofs.Common.{◌≡◌, ℕ, List, Result, Ok, inr, length, sym, subst, ap, ◌∙◌}
-use Rattle.std.specs.Prelude.{IsTrue}
+use Rattle.std.proofs.Common.{◌≡◌, ℕ, List, Result, Ok, inr, length, refl, sym, subst, ap, ◌∙◌}
+use Rattle.std.specs.Prelude.{IsTrue, slice_index}
 use Rattle.smc_words.specs.declared.number.Number.{Number}
 use Rattle.smc_shape.specs.Layout.{Layout, width_of}
 use Rattle.smc_core.specs.Add.{has_no_blank}
@@ -7,7 +7,7 @@ use Rattle.smc_types.specs.declared.column.Column.{Column}
 use Rattle.smc_does.specs.Does.{DoesSome}
 use Rattle.smc_objects.specs.Alone.{AddsRow}
 use Rattle.smc_objects.specs.declared.adding.Full.{Full}
-use Rattle.smc_load.specs.Loading.{record_of}
+use Rattle.smc_load.specs.Loading.{PutsKey, record_of}
 use Rattle.smc_load.proofs.RecordLaws.{record-width}
 use Rattle.smc_load.proofs.WordLaws.{are-small}
 use Rattle.smc_load.proofs.rows.load_row.Goals as goal
@@ -37,3 +37,18 @@ returns-in-Err c =
     let adds = subst (λ (k : Result Number Full). DoesSome c.args.pass last (AddsRow c.args.coll c.deref-2.result.now k)) c.in-Ok-answer.is c.add_one-pass.ensures.done in
     let as_record = subst (λ (k : List ℕ). DoesSome c.args.pass last (AddsRow c.args.coll k (Ok number))) (c.deref-2.ensures.value ∙ done) adds in
     (c.in-Err.ensures.kept, (as_record.0, as_record.1, inr (number, as_record.2)))
+
+-- the object was added, and its key was put
+pub returns-in-Ok-put_key : goal.returns-in-Ok-put_key
+returns-in-Ok-put_key c =
+    let schema = c.args.schema.now in
+    let keys = c.args.keys.now in
+    let words = c.args.words.now.items in
+    let last = c.add_one-pass.result.0 in
+    let number = c.in-Ok-answer.number in
+    let done = subst (λ (k : List Column). c.push_references.new.words.items ≡ record_of k keys words) c.as_slice.ensures.columns c.in-Ok.ensures.done in
+    let adds = subst (λ (k : Result Number Full). DoesSome c.args.pass last (AddsRow c.args.coll c.deref-2.result.now k)) c.in-Ok-answer.is c.add_one-pass.ensures.done in
+    let as_record = subst (λ (k : List ℕ). DoesSome c.args.pass last (AddsRow c.args.coll k (Ok number))) (c.deref-2.ensures.value ∙ done) adds in
+    let key = c.first_word-key.ensures ∙ ap (λ (k : List ℕ). slice_index k 0) c.deref.ensures.value in
+    let puts = subst (λ (k : ℕ). PutsKey schema.keyed c.args.table k number keys c.put_key.new.keys) key c.in-Ok-put_key.ensures.done in
+    (as_record.0, as_record.1, (record { row = c.requires.row; number = number; adds = as_record.2; puts = puts }, refl))

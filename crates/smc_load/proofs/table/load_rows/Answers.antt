@@ -1,5 +1,6 @@
 use Rattle.std.proofs.Common.{ℕ, List, [], ◌∷◌, ◌++◌, Result, length-append, rules, sym, subst, arith}
 use Rattle.std.specs.Io.KnownBytes.{prepend_known}
+use Rattle.smc_words.specs.declared.number.Number.{Number}
 use Rattle.smc_outside.specs.Told.{OnTold}
 use Rattle.smc_tbl.specs.Reading.{untaken}
 use Rattle.smc_load.specs.Loading.{RowEnds}
@@ -38,13 +39,13 @@ loop-pass-preserved g c =
     let pass = c.loop-pass.pass in
     let last = c.load_row-next.result.0 in
     let keys = c.load_row-next.new.keys in
-    let loads = subst (λ (k : Result (Unit {0}) RowFault). RowEnds k schema c.args.table c.args.coll c.loop-pass.keys keys words pass last) c.in_default.is c.load_row-next.ensures in
+    let loads = subst (λ (k : Result Number RowFault). RowEnds k schema c.args.table c.args.coll c.loop-pass.keys keys words pass last) c.in_default.is c.load_row-next.ensures in
     record {
       rows = (
         rows ++ words ∷ [],
         omega (arith, length-append rows (words ∷ []), counted, count),
         taken-more schema (left c.args.source.now) (untaken c.loop-pass.lines (left c.loop-pass.source)) (untaken c.next_words.new.lines (left c.next_words.new.source)) rows words taken reads,
-        does-more schema c.args.table c.args.coll c.args.pass pass last c.args.keys.now c.loop-pass.keys keys rows words loaded loads,
+        does-more schema c.args.table c.args.coll c.args.pass pass last c.args.keys.now c.loop-pass.keys keys rows words loaded (loads.0, loads.1, loads.2.0),
       );
       good = search rules;
       limit = omega (arith, limit, counted);
@@ -65,7 +66,7 @@ returns-in-Err-answer-clause-ends g c =
     let pass = c.loop-pass.pass in
     let last = c.load_row-next.result.0 in
     let keys = c.load_row-next.new.keys in
-    let ends = subst (λ (k : Result (Unit {0}) RowFault). RowEnds k schema c.args.table c.args.coll c.loop-pass.keys keys words pass last) c.in-Err-answer.is c.load_row-next.ensures in
+    let ends = subst (λ (k : Result Number RowFault). RowEnds k schema c.args.table c.args.coll c.loop-pass.keys keys words pass last) c.in-Err-answer.is c.load_row-next.ensures in
     rw c.row_fault.ensures
     (row-ends schema c.args.table c.args.coll (left c.args.source.now) (untaken c.loop-pass.lines (left c.loop-pass.source)) (untaken c.next_words.new.lines (left c.next_words.new.source)) rows words
     c.args.pass pass c.args.keys.now c.loop-pass.keys taken loaded c.in-Err-answer.fault c.line.result last keys reads (omega (arith, line, counted, count)) ends)
