@@ -13,7 +13,7 @@ use Rattle.smc_does.specs.Does.{DoesSome}
 use Rattle.smc_does.proofs.DoesLaws.{does-then}
 use Rattle.smc_script.specs.declared.script.Part.{Part}
 use Rattle.smc_script.specs.declared.script.Room.{Room}
-use Rattle.smc_script.specs.Trees.{CommandTree, PartTree, one, group, part_tree, query, stat}
+use Rattle.smc_script.specs.Trees.{CommandTree, PartTree, compact, one, group, part_tree, query, stat}
 use Rattle.smc_replies.proofs.PartLaws.{one-more}
 use Rattle.smc_desk.specs.declared.alone.RunEnd.{RunEnd}
 use Rattle.smc_desk.specs.declared.alone.RunEnd.TheVariants.{Done, WriteFault, NoMemory}
@@ -106,6 +106,7 @@ cannot (one numbered) may = go numbered.command may
     go : (c : CommandTree) → MayRun (shape_asked []) (one (record { line = numbered.line; command = c })) → ⊥
     go (stat place) may = omega (arith, may.1)
     go (query place tree) may = omega (arith, may.1)
+    go (compact place) may = omega (arith, may.1)
     go _ may = no-test may.0
 cannot (group workers) may = no-test may.0
 

@@ -4,6 +4,8 @@ ghost use Rattle.std.specs.List.{AllByRecursion};
 ghost use Rattle.smc_outside.specs.Causes.{Rose};
 ghost use Rattle.smc_shape.specs.Faults.{fault_of};
 ghost use Rattle.smc_region.specs.Callers.{IsPassOf, IsSame, new_caller};
+ghost use Rattle.smc_does.specs.Does.{OwnsNone};
+ghost use Rattle.smc_types.specs.Tables.{the_tables};
 ghost use Rattle.smc_script.specs.Trees.{numbered_tree, part_tree, script_tree};
 ghost use Rattle.smc_script.specs.Trees as trees;
 ghost use Rattle.smc_region.specs.Reached.{IsReached};
@@ -17,7 +19,7 @@ use smc_outside::{Sink, write_all};
 use smc_region::{Pass, Quiet, Region};
 use smc_script::{Numbered, Part, Room, Script, table_width};
 use smc_shape::{CollShape, Shape};
-use smc_types::tpch;
+use smc_types::Catalog;
 use smc_words::NoMemory;
 use std::alloc::Global;
 
@@ -49,15 +51,15 @@ impl Ran {
 }
 
 // The shape of the region in which these rooms are.
-fn shape_of(alloc: Global, rooms: &[Room]) -> Result<Shape, NoMemory>
+fn shape_of(alloc: Global, catalog: &Catalog, rooms: &[Room]) -> Result<Shape, NoMemory>
+    requires tables { catalog.now ≡ the_tables }
     requires opens { fault_of 1 (colls_asked rooms.now) ≡ None }
     ensures { IfOk result (λ shape. shape ≡ shape_asked rooms.now) }
 {
-    let catalog = tpch(alloc)?;
     let mut colls = Vec::new(alloc);
     for room in rooms {
         colls.push(CollShape {
-            width: table_width(&catalog, room.place.table),
+            width: table_width(catalog, room.place.table),
             slots: room.slots,
         })?;
     }
@@ -83,18 +85,21 @@ fn write_reply<O: Sink>(out: &mut O, reply: &Reply) -> RunEnd
 fn run_one<O: Sink>(
     alloc: Global,
     numbered: &Numbered,
+    catalog: &Catalog,
     pass: Pass,
     region: &Region,
     out: &mut O,
 ) -> (Pass, RunEnd)
     requires here { IsPassOf region.now pass }
+    requires free { OwnsNone pass }
+    requires tables { catalog.now ≡ the_tables }
     requires may { MayRun region.now.about.shape (trees.one (numbered_tree numbered.now)) }
-    ensures home { IsSame pass result.0 }
+    ensures home { IsSame pass result.0 × OwnsNone result.0 }
     ensures ends { PartEnds result.1 (trees.one (numbered_tree numbered.now)) pass result.0 (O.held out.old) (O.held out.new) }
     ensures cause { result.1 ≡ RunEnd.WriteFault → Rose (O.faults out.old) (O.faults out.new) }
     ensures later { O.faults out.old ≤ O.faults out.new }
 {
-    let (pass, reply) = one(alloc, &numbered.command, pass, region);
+    let (pass, reply) = one(alloc, &numbered.command, catalog, pass, region);
     match reply {
         Ok(reply) => (pass, write_reply(out, &reply)),
         Err(_) => (pass, RunEnd::NoMemory),
@@ -105,19 +110,22 @@ fn run_one<O: Sink>(
 fn run_part<O: Sink>(
     alloc: Global,
     part: &Part,
+    catalog: &Catalog,
     pass: Pass,
     region: &Region,
     out: &mut O,
 ) -> (Pass, RunEnd)
     requires here { IsPassOf region.now pass }
+    requires free { OwnsNone pass }
+    requires tables { catalog.now ≡ the_tables }
     requires may { MayRun region.now.about.shape (part_tree part.now) }
-    ensures home { IsSame pass result.0 }
+    ensures home { IsSame pass result.0 × OwnsNone result.0 }
     ensures ends { PartEnds result.1 (part_tree part.now) pass result.0 (O.held out.old) (O.held out.new) }
     ensures cause { result.1 ≡ RunEnd.WriteFault → Rose (O.faults out.old) (O.faults out.new) }
     ensures later { O.faults out.old ≤ O.faults out.new }
 {
     match part {
-        Part::One(numbered) => run_one(alloc, numbered, pass, region, out),
+        Part::One(numbered) => run_one(alloc, numbered, catalog, pass, region, out),
         Part::Group { .. } => unreachable!(),
     }
 }
@@ -126,20 +134,23 @@ fn run_part<O: Sink>(
 fn run_parts<O: Sink>(
     alloc: Global,
     parts: &[Part],
+    catalog: &Catalog,
     pass: Pass,
     region: &Region,
     out: &mut O,
 ) -> (Pass, RunEnd)
     requires here { IsPassOf region.now pass }
+    requires free { OwnsNone pass }
+    requires tables { catalog.now ≡ the_tables }
     requires may { AllByRecursion (MayRun region.now.about.shape) (map part_tree parts.now) }
-    ensures home { IsSame pass result.0 }
+    ensures home { IsSame pass result.0 × OwnsNone result.0 }
     ensures ends { PartsEnd result.1 (map part_tree parts.now) pass result.0 (O.held out.old) (O.held out.new) }
     ensures cause { result.1 ≡ RunEnd.WriteFault → Rose (O.faults out.old) (O.faults out.new) }
     ensures later { O.faults out.old ≤ O.faults out.new }
 {
     let mut pass = pass;
     for part in parts {
-        let (next, end) = run_part(alloc, part, pass, region, out);
+        let (next, end) = run_part(alloc, part, catalog, pass, region, out);
         pass = next;
         match end {
             RunEnd::Done => {}
@@ -180,7 +191,14 @@ fn close_region(region: Region, pass: Pass, mut passes: Vec<Pass>) -> Result<Qui
 }
 
 // Runs the parts by the one pass of a new region, and closes it.
-fn run_in<O: Sink>(alloc: Global, shape: Shape, parts: &[Part], out: &mut O) -> Ran
+fn run_in<O: Sink>(
+    alloc: Global,
+    catalog: &Catalog,
+    shape: Shape,
+    parts: &[Part],
+    out: &mut O,
+) -> Ran
+    requires tables { catalog.now ≡ the_tables }
     requires one { shape.passes ≡ 1 }
     requires may { AllByRecursion (MayRun shape) (map part_tree parts.now) }
     ensures ends { RunsAs (HasClosed shape) result.end (map part_tree parts.now) result.quiet (O.held out.old) (O.held out.new) }
@@ -190,7 +208,7 @@ fn run_in<O: Sink>(alloc: Global, shape: Shape, parts: &[Part], out: &mut O) -> 
     let Ok((region, pass, passes)) = open_region(alloc, shape) else {
         return Ran::without(RunEnd::NoMemory);
     };
-    let (pass, end) = run_parts(alloc, parts, pass, &region, out);
+    let (pass, end) = run_parts(alloc, parts, catalog, pass, &region, out);
     if matches!(end, RunEnd::NoMemory) {
         return Ran::without(RunEnd::NoMemory);
     }
@@ -204,7 +222,8 @@ fn run_in<O: Sink>(alloc: Global, shape: Shape, parts: &[Part], out: &mut O) -> 
 }
 
 /// Runs a script without groups. Each reply is written before the next command starts.
-pub fn run_alone<O: Sink>(alloc: Global, script: &Script, out: &mut O) -> Ran
+pub fn run_alone<O: Sink>(alloc: Global, script: &Script, catalog: &Catalog, out: &mut O) -> Ran
+    requires tables { catalog.now ≡ the_tables }
     requires opens { MayOpen script.now.rooms }
     requires may { AllByRecursion (MayRun (shape_asked script.now.rooms)) (map part_tree script.now.parts) }
     ensures ends { RunsTo result.end (script_tree script.now) result.quiet (O.held out.old) (O.held out.new) }
@@ -215,8 +234,8 @@ pub fn run_alone<O: Sink>(alloc: Global, script: &Script, out: &mut O) -> Ran
     if rooms.is_empty() {
         return Ran::without(RunEnd::Done);
     }
-    match shape_of(alloc, rooms) {
-        Ok(shape) => run_in(alloc, shape, script.parts.as_slice(), out),
+    match shape_of(alloc, catalog, rooms) {
+        Ok(shape) => run_in(alloc, catalog, shape, script.parts.as_slice(), out),
         Err(_) => Ran::without(RunEnd::NoMemory),
     }
 }

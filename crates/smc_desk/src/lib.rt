@@ -1,7 +1,7 @@
 //! Scripts without groups are run on a region of their own, command by command.
 //!
 //! `outside` has `one`, which runs a command outside a group, and tells which commands are run; `reply` has the reply's
-//! text; `alone` opens the region, runs the parts of a script in order, and closes it; `known` finds the first part that is
+//! text, and `tables` the tables' names; `alone` opens the region, runs the parts of a script in order, and closes it; `known` finds the first part that is
 //! not run. What a command does and replies is defined in smc_replies, how a run ends in `specs/Runs.antt`. Below stand the
 //! calls on objects; above, the program. Callers may rely on it that a pass goes on by exactly the calls of its commands,
 //! that each reply is that of these calls, and that it is written before the next command starts.
@@ -11,6 +11,7 @@ mod alone;
 mod known;
 mod outside;
 mod reply;
+mod tables;
 
 pub use alone::{Ran, RunEnd, run_alone};
 pub use known::unknown_line;

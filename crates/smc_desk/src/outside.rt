@@ -4,13 +4,18 @@ ghost use Rattle.smc_region.specs.Callers.{IsPassOf, IsSame};
 ghost use Rattle.smc_does.specs.Does.{DoesSome, OwnsNone};
 ghost use Rattle.smc_query.specs.Trees.{item_tree, query_tree};
 ghost use Rattle.smc_script.specs.Trees.{command_tree};
-ghost use Rattle.smc_replies.specs.Commands.{Counts, IsInRegion, RunsCommand, count_row, counts_all, is_known, objects_line, shows_count};
+ghost use Rattle.smc_types.specs.Tables.{the_tables};
+ghost use Rattle.smc_replies.specs.Commands.{Counts, IsInRegion, PacksTable, RunsCommand, count_row, counts_all, is_known, objects_line, shows_count};
 
-use crate::reply::{Reply, count_row, objects_line};
+use crate::reply::{Reply, count_row, objects_line, packed_reply};
+use crate::tables::table_name;
+use smc_compact::pack;
 use smc_objects::count_objects;
 use smc_query::{Item, ItemCall, Query};
 use smc_region::{Pass, Region};
-use smc_script::Command;
+use smc_replies::COMPACT_TURNS;
+use smc_script::{Command, Place};
+use smc_types::Catalog;
 use smc_words::NoMemory;
 use std::alloc::Global;
 
@@ -36,6 +41,28 @@ fn count(alloc: Global, coll: u8, pass: Pass, region: &Region) -> (Pass, Result<
     (pass, count_row(alloc, count))
 }
 
+/// Packs a table by a drive, and counts its objects afterwards.
+fn compact(
+    alloc: Global,
+    place: Place,
+    catalog: &Catalog,
+    pass: Pass,
+    region: &Region,
+) -> (Pass, Result<Reply, NoMemory>)
+    requires here { IsPassOf region.now pass }
+    requires tables { catalog.now ≡ the_tables }
+    requires coll { place.coll < length region.now.about.shape.colls }
+    requires free { OwnsNone pass }
+    ensures done { IfOk result.1 (λ reply. DoesSome pass result.0 (λ calls. PacksTable place calls reply)) }
+    ensures home { IsSame pass result.0 × OwnsNone result.0 }
+{
+    let (pass, packed) = pack(pass, region, place.coll, COMPACT_TURNS);
+    (
+        pass,
+        packed_reply(alloc, table_name(catalog, place.table), packed),
+    )
+}
+
 /// Runs one command outside a group. Answers its reply.
 ///
 /// # Errors
@@ -43,18 +70,22 @@ fn count(alloc: Global, coll: u8, pass: Pass, region: &Region) -> (Pass, Result<
 pub fn one(
     alloc: Global,
     c: &Command,
+    catalog: &Catalog,
     pass: Pass,
     region: &Region,
 ) -> (Pass, Result<Reply, NoMemory>)
     requires here { IsPassOf region.now pass }
+    requires free { OwnsNone pass }
+    requires tables { catalog.now ≡ the_tables }
     requires known { is_known (command_tree c.now) ≡ true }
     requires fits { IsInRegion region.now.about.shape (command_tree c.now) }
     ensures done { IfOk result.1 (λ reply. DoesSome pass result.0 (λ calls. RunsCommand (command_tree c.now) calls reply)) }
-    ensures home { IsSame pass result.0 × (OwnsNone pass → OwnsNone result.0) }
+    ensures home { IsSame pass result.0 × OwnsNone result.0 }
 {
     match c {
         Command::Stat { place } => stat(alloc, place.coll, pass, region),
         Command::Query { place, .. } => count(alloc, place.coll, pass, region),
+        Command::Compact { place } => compact(alloc, *place, catalog, pass, region),
         _ => unreachable!(),
     }
 }
@@ -87,6 +118,7 @@ pub fn is_known(c: &Command) -> bool
     match c {
         Command::Stat { .. } => true,
         Command::Query { query, .. } => counts_all(query),
+        Command::Compact { .. } => true,
         _ => false,
     }
 }

@@ -1,15 +1,17 @@
 -- Parts that are run one behind another.
 use Rattle.std.proofs.Common.{◌≡◌, ℕ, List, [], ◌∷◌, ◌++◌, refl, sym, ap, ◌∙◌, append_assoc, append-nil}
 use Rattle.smc_trace.specs.Trace.{CallEnd}
-use Rattle.smc_script.specs.Trees.{PartTree, one, group, query, stat}
+use Rattle.smc_script.specs.Trees.{PartTree, compact, one, group, query, stat}
 use Rattle.smc_replies.specs.Laws.{CommandIsOne, IsOnePart, OnePartMore, TextIsOne}
 use Rattle.smc_replies.specs.Scripts.{RunsPart, RunsParts}
 use Rattle.smc_replies.specs.Commands.{count_row, objects_line}
 use Rattle.smc_replies.proofs.Fronts.{counts-one}
+use Rattle.smc_replies.proofs.PackFronts.{packs-one}
 
 pub command-one : CommandIsOne
 command-one (stat place) first other rest behind text said runs again same = counts-one objects_line place.coll first other rest behind text said runs again same
 command-one (query place tree) first other rest behind text said runs again same = counts-one count_row place.coll first other rest behind text said runs.1 again.1 same
+command-one (compact place) first other rest behind text said runs again same = packs-one place first other rest behind text said runs again same
 command-one _ first other rest behind text said runs again same = absurd runs
 
 pub part-one : (part : PartTree) (first other rest behind : List CallEnd) (text said : List ℕ) → RunsPart part first text → RunsPart part other said → first ++ rest ≡ other ++ behind

@@ -1,12 +1,24 @@
 -- What each command does, and what it replies.
-use Rattle.std.specs.Prelude.{◌≡◌, ℕ, ◌<◌, Bool, true, false, is_none, ◌==◌, ◌&&◌, List, [], ◌∷◌, ◌++◌, length, codes}
+use Rattle.std.specs.Prelude.{◌≡◌, ℕ, ◌<◌, Bool, true, false, is_none, ◌==◌, ◌&&◌, List, [], ◌∷◌, ◌++◌, length, codes, Option, Some, None}
 use Rattle.std.specs.Fmt.{decimal}
 use Rattle.smc_shape.specs.Layout.{Layout}
 use Rattle.smc_trace.specs.Trace.{CallEnd}
 use Rattle.smc_objects.specs.Alone.{CountsObjects, InSection}
+use Rattle.smc_compact.specs.declared.counting.Census.{Census}
+use Rattle.smc_compact.specs.declared.outcome.Outcome.{Outcome}
+use Rattle.smc_compact.specs.declared.outcome.Outcome.TheVariants as outcome
+use Rattle.smc_compact.specs.declared.packing.Packed.{Packed}
+use Rattle.smc_compact.specs.Packs.{Packs}
+use Rattle.smc_types.specs.Tables.{the_tables}
+use Rattle.smc_types.specs.declared.schema.Schema.{Schema}
 use Rattle.smc_query.specs.Trees as trees
 use Rattle.smc_query.specs.Trees.{CallTree, ItemTree, QueryTree}
-use Rattle.smc_script.specs.Trees.{CommandTree, query, stat}
+use Rattle.smc_script.specs.Tables.{schema_of}
+use Rattle.smc_script.specs.Trees.{CommandTree, compact, query, stat}
+use Rattle.smc_script.specs.declared.script.Place.{Place}
+use Rattle.smc_replies.specs.declared.limits.TheConstants.{COMPACT_TURNS}
+
+-- ---- counting
 
 -- the line that says how many objects there are
 abbrev pub objects_line : ℕ → List ℕ
@@ -36,20 +48,58 @@ shows_count items = false
 abbrev pub counts_all : QueryTree → Bool
 counts_all tree = is_none tree.filter && (length tree.by == 0) && shows_count tree.items && (length tree.sort == 0) && is_none tree.first
 
+-- ---- packing
+
+-- the name of a table; where there is none, no name
+abbrev pub name_by : Option Schema → List ℕ
+name_by None = []
+name_by (Some schema) = schema.name
+
+-- the name of the table with this number
+abbrev pub table_name : ℕ → List ℕ
+table_name table = name_by (schema_of the_tables table)
+
+-- the line that says how many objects a table has, and how many blocks hold them
+abbrev pub packed_line : List ℕ → Census → List ℕ
+packed_line table census = codes "packed " ++ table ++ codes " objects " ++ decimal census.objects ++ codes " blocks " ++ decimal census.blocks ++ codes "\n"
+
+-- the reply to packing, as the drive ended: this one where its objects lie in the fewest blocks
+abbrev pub reply_by : Outcome → List ℕ → List ℕ
+reply_by (outcome.Done moved abandoned gone) packed = packed
+reply_by outcome.Nothing packed = packed
+reply_by (outcome.Busy seen) packed = codes "busy\n"
+reply_by (outcome.Later pass seen) packed = codes "later\n"
+reply_by outcome.Spent packed = codes "spent\n"
+
+-- the reply to packing the table of this name
+abbrev pub packed_reply : List ℕ → Packed → List ℕ
+packed_reply table packed = reply_by packed.outcome (packed_line table packed.census)
+
+-- the table is packed, and its objects are counted afterwards
+pub record PacksTable (place : Place) (calls : List CallEnd) (text : List ℕ) : Type 0 where
+  pub packed : Packed
+  pub packs : Packs place.coll COMPACT_TURNS packed calls
+  pub reply : text ≡ packed_reply (table_name place.table) packed
+
+-- ---- commands
+
 -- the commands that are run; a script that has another one is refused at its line, as one with a line that is no command
 abbrev pub is_known : CommandTree → Bool
 is_known (stat place) = true
 is_known (query place tree) = counts_all tree
+is_known (compact place) = true
 is_known _ = false
 
 -- the collection of the command lies in the region
 abbrev pub IsInRegion : Layout → CommandTree → Type 0
 IsInRegion shape (stat place) = place.coll < length shape.colls
 IsInRegion shape (query place tree) = place.coll < length shape.colls
+IsInRegion shape (compact place) = place.coll < length shape.colls
 IsInRegion shape _ = Unit {0}
 
 -- the command makes these calls, and this is its reply
 abbrev pub RunsCommand : CommandTree → List CallEnd → List ℕ → Type 0
 RunsCommand (stat place) calls text = Counts objects_line place.coll calls text
 RunsCommand (query place tree) calls text = (counts_all tree ≡ true) × Counts count_row place.coll calls text
+RunsCommand (compact place) calls text = PacksTable place calls text
 RunsCommand _ calls text = ⊥

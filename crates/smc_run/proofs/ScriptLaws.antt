@@ -12,7 +12,7 @@ use Rattle.smc_types.specs.Tables.{the_tables}
 use Rattle.smc_types.specs.declared.catalog.Catalog.{Catalog}
 use Rattle.smc_script.specs.Scripts.{Answers, TextGives}
 use Rattle.smc_script.specs.Sound.{IsPlaced, coll_of_room}
-use Rattle.smc_script.specs.Trees.{CommandTree, PartTree, ScriptTree, one, group, query, stat}
+use Rattle.smc_script.specs.Trees.{CommandTree, PartTree, ScriptTree, compact, one, group, query, stat}
 use Rattle.smc_script.specs.declared.fault.ScriptFault.{ScriptFault}
 use Rattle.smc_script.specs.declared.fault.ScriptFault.TheVariants.{Bad}
 use Rattle.smc_script.specs.declared.fault.ScriptFault.TheVariants as fault
@@ -44,6 +44,7 @@ part-may rooms (one numbered) placed known = go numbered.command placed known
     go : (c : CommandTree) → IsPlaced (length rooms) (one (record { line = numbered.line; command = c })) → is_known_part (one (record { line = numbered.line; command = c })) ≡ true
         → MayRun (shape_asked rooms) (one (record { line = numbered.line; command = c }))
     go (stat place) placed known = (refl, omega (arith, placed, colls-many rooms))
+    go (compact place) placed known = (refl, omega (arith, placed, colls-many rooms))
     go (query place tree) placed known = (known, omega (arith, placed, colls-many rooms))
     go _ placed known = absurd (no-test known)
 part-may rooms (group workers) placed known = absurd (no-test known)

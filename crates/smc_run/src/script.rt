@@ -14,7 +14,7 @@ use smc_desk::{Ran, RunEnd, run_alone, unknown_line};
 use smc_history::laws::what_happened_is_lawful;
 use smc_outside::{Sink, Source};
 use smc_script::{FoldNames, Script, ScriptFault, read_script};
-use smc_types::tpch;
+use smc_types::{Catalog, tpch};
 use std::alloc::Global;
 
 // How the program ends where there is no script.
@@ -40,8 +40,9 @@ fn status_of_run(end: RunEnd) -> Status
 }
 
 // Runs a script, if all its commands are run; else refuses it at the first that is not.
-fn run_known<O: Sink>(alloc: Global, script: &Script, out: &mut O) -> Ended
-    requires { IsSound the_tables script.now }
+fn run_known<O: Sink>(alloc: Global, script: &Script, catalog: &Catalog, out: &mut O) -> Ended
+    requires tables { catalog.now ≡ the_tables }
+    requires sound { IsSound the_tables script.now }
     ensures ends { RunsKnown result.status (script_tree script.now) result.quiet (O.held out.old) (O.held out.new) }
     ensures lawful { IfSome result.quiet IsLawful }
     ensures cause { result.status ≡ Status.WriteFault → Rose (O.faults out.old) (O.faults out.new) }
@@ -52,7 +53,7 @@ fn run_known<O: Sink>(alloc: Global, script: &Script, out: &mut O) -> Ended
     match unknown_line(script.parts.as_slice()) {
         Some(line) => Ended::at(Status::BadScript { line }),
         None => {
-            let Ran { end, quiet } = run_alone(alloc, script, out);
+            let Ran { end, quiet } = run_alone(alloc, script, catalog, out);
             Ended {
                 status: status_of_run(end),
                 quiet,
@@ -75,7 +76,7 @@ pub fn run<I: Source, O: Sink>(alloc: Global, input: &mut I, out: &mut O) -> End
     };
     let folds = FoldNames::of(Vec::new(alloc));
     match read_script(alloc, input, &catalog, folds) {
-        Ok(script) => run_known(alloc, &script, out),
+        Ok(script) => run_known(alloc, &script, &catalog, out),
         Err(fault) => Ended::at(refused_at(fault)),
     }
 }

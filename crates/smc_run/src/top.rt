@@ -201,6 +201,33 @@ mod tests {
     }
 
     #[test]
+    fn scripts_are_run(rt: HostRuntime) -> Result<(), Fail> {
+        let cases = [
+            (
+                "room region 64\nstat region\ncompact region\n",
+                "smc: 0 done",
+                "objects 0\npacked region objects 0 blocks 0\n",
+            ),
+            (
+                "room region 64\nroom nation 64\ncompact nation\nquery from region show count()\n",
+                "smc: 0 done",
+                "packed nation objects 0 blocks 0\nrows 1\n0\n",
+            ),
+            (
+                "room region 64\ncompact nation\n",
+                "smc: 2 bad script, line 2",
+                "",
+            ),
+        ];
+        for (case, (text, line, written)) in cases.iter().enumerate() {
+            let (status, held) = run(rt.alloc(), &["run"], text, &[], &[], 64)?;
+            assert_eq!(rt; status.as_str(), *line, "at {case}");
+            assert_eq!(rt; held.as_slice(), written.as_bytes(), "at {case}");
+        }
+        Ok(())
+    }
+
+    #[test]
     fn faults_outside_are_told(rt: HostRuntime) -> Result<(), Fail> {
         let text = "0|AFRICA|a|\n4|MIDDLE EAST|b|\n";
         // The reads and the writes that fail, the room for output, the status, and what was written.

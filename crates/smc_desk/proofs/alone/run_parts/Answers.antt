@@ -28,10 +28,10 @@ returns-in_default g c =
     let before = ran.1.same in
     let faults = c.loop-part.invariant.faults in
     let ensures = c.run_part-next.ensures in
-    let now = ensures.home in
+    let now = ensures.home.0 in
     let later = ensures.later in
     record {
-      home = (now.0 ∙ before.0, now.1 ∙ before.1, now.2 ∙ before.2);
+      home = ((now.0 ∙ before.0, now.1 ∙ before.1, now.2 ∙ before.2), ensures.home.1);
       ends = ends-within c.run_part-next.result.1 (map part_tree parts) i (part_tree item) c.args.pass c.loop-part.pass c.run_part-next.result.0
           (held c.args.out.now) (held c.loop-part.out) (held c.run_part-next.new.out) (step parts i item c.loop-part-test.true c.part-item.is) c.in_default.not-Done ran ensures.ends;
       cause = λ is. let rose = ensures.cause is in omega (arith, rose, faults);
@@ -53,5 +53,6 @@ loop-part-preserved g c =
       ran = subst (λ (ps : List PartTree). DoesSome c.args.pass next (λ calls. Replies Appends ps calls (held c.args.out.now) (held c.run_part-next.new.out)))
           (sym (step parts i item c.loop-part-test.true c.part-item.is))
           (ran-more (take i all) (part_tree item) c.args.pass c.loop-part.pass next (held c.args.out.now) (held c.loop-part.out) (held c.run_part-next.new.out) c.loop-part.invariant.ran ends);
+      free = c.run_part-next.ensures.home.1;
       faults = omega (arith, faults, later);
     }

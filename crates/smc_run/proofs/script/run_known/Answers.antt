@@ -9,4 +9,4 @@ pub run_alone-end-requires-clause-may : goal.run_alone-end-requires-clause-may
 run_alone-end-requires-clause-may g c =
     let script = c.args.script.now in
     let none = subst (λ (parts : List Part). unknown_line (map part_tree parts) ≡ None) c.as_slice.ensures (sym c.unknown_line.ensures ∙ c.in-None.is) in
-    all-may script.rooms (map part_tree script.parts) c.requires.fits none
+    all-may script.rooms (map part_tree script.parts) c.requires.sound.fits none
