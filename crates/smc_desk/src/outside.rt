@@ -57,7 +57,10 @@ fn compact(
     ensures home { IsSame pass result.0 × OwnsNone result.0 }
 {
     let (pass, packed) = pack(pass, region, place.coll, COMPACT_TURNS);
-    (pass, packed_reply(alloc, table_name(catalog, place.table), packed))
+    (
+        pass,
+        packed_reply(alloc, table_name(catalog, place.table), packed),
+    )
 }
 
 /// Runs one command outside a group. Answers its reply.
