@@ -127,6 +127,7 @@ forecast_plan = record {
   first = None;
 }
 
+-- the forecast has its plan
 abbrev pub PlansForecast : Type 0
 PlansForecast = Comes forecast_query (Ok forecast_plan)
 
@@ -174,5 +175,6 @@ shipping_plan = record {
   first = Some 10;
 }
 
+-- the orders of a market have theirs
 abbrev pub PlansShipping : Type 0
 PlansShipping = Comes shipping_query (Ok shipping_plan)
