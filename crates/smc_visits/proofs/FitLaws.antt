@@ -13,7 +13,8 @@ use Rattle.smc_types.specs.declared.column.FieldType.{FieldType}
 use Rattle.smc_types.specs.declared.column.FieldType.TheVariants.{Count, Amount, Rate, Day, Text, RefTo}
 use Rattle.smc_types.specs.declared.schema.Schema.{Schema}
 use Rattle.smc_plan.specs.Answers.{and_then}
-use Rattle.smc_plan.specs.Leaves.{hop_of, is_last, last_leaf, leaf_at, leaf_behind, place_of, placed_at, table_behind}
+use Rattle.smc_plan.specs.Leaves.{hop_of, is_last, last_leaf, leaf_at, leaf_behind, place_of, table_behind}
+use Rattle.smc_plan.specs.Planning.{placed_at}
 use Rattle.smc_plan.specs.Tables.{field_among, field_at, field_by, field_named, field_or_fault, schema_of}
 use Rattle.smc_plan.specs.declared.fault.PlanFault.{PlanFault}
 use Rattle.smc_plan.specs.declared.fault.PlanFault.TheVariants.{Path}

@@ -4,7 +4,8 @@ use Rattle.std.specs.List.{AllByRecursion}
 use Rattle.smc_query.specs.Trees.{PathTree}
 use Rattle.smc_types.specs.declared.catalog.Catalog.{Catalog}
 use Rattle.smc_plan.specs.declared.leaf.Leaf.{Leaf}
-use Rattle.smc_plan.specs.Leaves.{leaf_of, placed}
+use Rattle.smc_plan.specs.Leaves.{leaf_of}
+use Rattle.smc_plan.specs.Planning.{placed}
 use Rattle.smc_visits.specs.Rows.{FitsRecord}
 
 -- what a path comes to reads within its records
