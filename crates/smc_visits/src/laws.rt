@@ -12,7 +12,7 @@ pub fn rows_are_whole()
     ensures { AreWhole }
 {}
 
-/// What the paths of a query come to can be read, and so can all leaves of a plan.
+/// What a path of a query comes to can be read, and leaves that can be read still can once one such leaf is placed among them.
 pub fn leaves_fit()
     ensures paths { PathsFit }
     ensures placed { PlacedFit }
