@@ -14,6 +14,7 @@ mod group;
 pub mod laws;
 mod leaf;
 mod rows;
+mod shown;
 mod text;
 mod value;
 
@@ -21,5 +22,6 @@ pub use comparing::compare_rows;
 pub use decimal::Decimal;
 pub use filter::kept;
 pub use rows::Rows;
+pub use shown::{Shown, ShownText};
 pub use text::TextIn;
 pub use value::{Sort, day_at, number_at, sort_at, text_at};
