@@ -3,3 +3,5 @@ pub mod OperandLaws
 pub mod TreeSizes
 pub mod TextOrders
 pub mod SideLaws
+pub mod RowLaws
+pub mod GroupLaws

@@ -1,10 +1,11 @@
+pub mod Rows
 pub mod Values
 pub mod Kinds
 pub mod Decimals
 pub mod Texts
 pub mod Comparing
 pub mod Kept
-pub mod Conditions
+pub mod Shown
 pub mod Sorting
 pub mod Groups
 pub mod Answers

@@ -1,17 +1,13 @@
 //! Whether a plan keeps a row.
-ghost use Rattle.std.specs.Prelude.{◌≡◌, length};
+ghost use Rattle.std.specs.Prelude.{◌≡◌, IfSome, length};
 ghost use Rattle.smc_plan.specs.Conditions.{condition_tree};
 ghost use Rattle.smc_plan.specs.Leaves.{leaves_words};
 ghost use Rattle.smc_plan.specs.Planned.{filter_condition, plan_tree};
-ghost use Rattle.smc_plan.specs.Typed.{typed_tree};
-ghost use Rattle.smc_meaning.specs.Comparing.{compare};
-ghost use Rattle.smc_meaning.specs.Conditions.{CanCompare, IsCondition, IsFilter};
+ghost use Rattle.smc_plan.specs.Kinds.{IsTyped};
 ghost use Rattle.smc_meaning.specs.Kept.{holds, is_kept, meets};
-ghost use Rattle.smc_meaning.specs.Values.{value_of};
 
-use crate::Sort;
-use crate::value::{day_at, number_at, sort_at, text_at};
-use smc_plan::{Leaf, Plan, Typed, TypedCond};
+use crate::comparing::compare_at;
+use smc_plan::{Leaf, Plan, TypedCond};
 use smc_query::Op;
 use std::cmp::Ordering;
 
@@ -29,33 +25,20 @@ fn holds(op: Op, order: Ordering) -> bool
     }
 }
 
-// How the values of two expressions compare in a row.
-fn compare_at(leaves: &[Leaf], left: &Typed, right: &Typed, row: &[u64]) -> Ordering
-    requires words { length row.now ≡ leaves_words leaves.now }
-    requires sides { CanCompare leaves.now (typed_tree left.now) (typed_tree right.now) }
-    ensures { result ≡ compare (value_of leaves.now (typed_tree left.now) row.now) (value_of leaves.now (typed_tree right.now) row.now) }
-{
-    match sort_at(leaves, left) {
-        Sort::Number => number_at(leaves, left, row).compare(number_at(leaves, right, row)),
-        Sort::Day => day_at(leaves, left, row).cmp(&day_at(leaves, right, row)),
-        Sort::Text => text_at(leaves, left, row).compare(text_at(leaves, right, row)),
-    }
-}
-
 // Whether a condition holds of a row.
 fn meets(leaves: &[Leaf], condition: &TypedCond, row: &[u64]) -> bool
     requires words { length row.now ≡ leaves_words leaves.now }
-    requires sides { IsCondition leaves.now (condition_tree condition.now) }
+    requires sides { IsTyped leaves.now (condition_tree condition.now) }
     ensures { result ≡ meets leaves.now (condition_tree condition.now) row.now }
 {
     match condition {
         TypedCond::Or(left, right) => meets(leaves, left, row) || meets(leaves, right, row),
         TypedCond::And(left, right) => meets(leaves, left, row) && meets(leaves, right, row),
         TypedCond::Not(of) => !meets(leaves, of, row),
-        TypedCond::Compare { op, left, right } => holds(*op, compare_at(leaves, left, right, row)),
+        TypedCond::Compare { op, left, right } => holds(*op, compare_at(leaves, left, row, right, row)),
         TypedCond::Between { value, low, high } => {
-            compare_at(leaves, value, low, row).is_ge()
-                && compare_at(leaves, value, high, row).is_le()
+            compare_at(leaves, value, row, low, row).is_ge()
+                && compare_at(leaves, value, row, high, row).is_le()
         }
     }
 }
@@ -63,7 +46,7 @@ fn meets(leaves: &[Leaf], condition: &TypedCond, row: &[u64]) -> bool
 /// Whether a plan keeps a row, given by the words of all its leaves.
 pub fn kept(plan: &Plan, row: &[u64]) -> bool
     requires words { length row.now ≡ leaves_words plan.now.leaves }
-    requires sides { IsFilter plan.now.leaves (filter_condition plan.now.filter) }
+    requires sides { IfSome (filter_condition plan.now.filter) (IsTyped plan.now.leaves) }
     ensures { result ≡ is_kept (plan_tree plan.now) row.now }
 {
     match &plan.filter {

@@ -7,14 +7,21 @@
 //! The value of an expression is defined in `specs/Values.antt`, and what an expression is in `Kinds.antt`.
 #![tactic(auto)]
 
+mod comparing;
 mod decimal;
 mod filter;
+mod group;
 pub mod laws;
 mod leaf;
+mod rows;
+mod shown;
 mod text;
 mod value;
 
+pub use comparing::compare_rows;
 pub use decimal::Decimal;
 pub use filter::kept;
+pub use rows::Rows;
+pub use shown::{Shown, ShownText};
 pub use text::TextIn;
 pub use value::{Sort, day_at, number_at, sort_at, text_at};
