@@ -1,2 +1,2 @@
-pub mod TypedLaws
 pub mod PlacedLaws
+pub mod FieldLaws

@@ -7,6 +7,7 @@ use Rattle.smc_types.specs.declared.catalog.Catalog.{Catalog}
 use Rattle.smc_plan.specs.Answers.{and_then}
 use Rattle.smc_plan.specs.Conditions.{ConditionTree, either, both, negation}
 use Rattle.smc_plan.specs.Conds.{compared, ranged, typed_cond}
+use Rattle.smc_plan.specs.Edits.{PlannedEdit, edited_field, edited_parts, planned_edit, written}
 use Rattle.smc_plan.specs.Exprs.{day_typed, difference_typed, field_typed, leaf_typed, minus_typed, number_typed, product_typed, sum_typed, text_typed, typed_expr}
 use Rattle.smc_plan.specs.Items.{aggregated, folded, known, planned_call, planned_item}
 use Rattle.smc_plan.specs.Leaves.{leaf_of}
@@ -15,13 +16,15 @@ use Rattle.smc_plan.specs.Outputs.{OutputTree, count}
 use Rattle.smc_plan.specs.Planned.{Planned, placed_path, placed_paths, planned, planned_filter, planned_items, planned_key, planned_keys, planned_parts, table_or_fault, with_leaves}
 use Rattle.smc_plan.specs.Planning.{Made, Planning, ◌>>=◌, each, given, made, placed}
 use Rattle.smc_plan.specs.Tables.{table_named}
+use Rattle.smc_plan.specs.Typed.{KindedTree}
 use Rattle.smc_plan.specs.declared.fault.PlanFault.{PlanFault}
 use Rattle.smc_plan.specs.declared.leaf.Leaf.{Leaf}
 use Rattle.smc_plan.specs.declared.plan.OrderKey.{OrderKey}
-use Rattle.smc_plan.proofs.GrowLaws.{HasAll, and_then-Ok, behind-filter, behind-items, behind-keys, behind-paths, parts-leaves}
+use Rattle.smc_plan.specs.declared.table.Field.{Field}
+use Rattle.smc_plan.proofs.GrowLaws.{HasAll, HasAllOfEdit, and_then-Ok, behind-filter, behind-items, behind-keys, behind-paths, behind-typed, behind-value, edit-leaves, parts-leaves}
 use Rattle.smc_visits.specs.Rows.{FitsRecord}
 use Rattle.smc_visits.proofs.FitLaws.{paths-fit, placed-fit}
-use Rattle.smc_exec.specs.Plans.{IsPlanned}
+use Rattle.smc_exec.specs.Plans.{IsPlanned, IsPlannedEdit}
 
 -- all of these leaves can be read
 abbrev pub Fit : List Leaf → Type 0
@@ -152,4 +155,32 @@ query-fits plan of =
     let fit : Fit second.0.leaves = keeps-parts of.catalog of.folds first.0 of.query [] second.0 second.1 tt in
     let same : second.0.part ≡ plan = cc in
     let leaves : second.0.leaves ≡ plan.leaves = sym whole ∙ ap (λ (one : Planned). one.leaves) same in
+    subst Fit leaves fit
+
+-- ---- edits
+
+module _ (catalog : Catalog) (field : Field) (cond : Option CondTree) where
+  keeps-behind-value : (value : KindedTree) → Keeps (behind-value catalog field cond value)
+  keeps-behind-value value =
+      keeps-then (planned_filter catalog field.table cond) (λ filter. with_leaves (λ leaves. record { leaves = leaves; field = field; value = value; filter = filter }))
+      (keeps-filter catalog field.table cond) (λ filter. keeps-leaves (λ leaves. record { leaves = leaves; field = field; value = value; filter = filter }))
+
+  keeps-behind-typed : (typed : KindedTree) → Keeps (behind-typed catalog field cond typed)
+  keeps-behind-typed typed =
+      keeps-then (given (written field.kind typed)) (behind-value catalog field cond) (keeps-given (written field.kind typed)) keeps-behind-value
+
+  keeps-edit : (value : ExprTree) → Keeps (edited_parts catalog field value cond)
+  keeps-edit one = keeps-then (typed_expr catalog field.table one) (behind-typed catalog field cond) (keeps-expr catalog field.table one) keeps-behind-typed
+
+-- all leaves of the plan of an edit can be read
+pub edit-fits : (plan : PlannedEdit) → IsPlannedEdit plan → Fit plan.leaves
+edit-fits plan of =
+    let first = and_then-Ok (table_or_fault (table_named of.catalog of.table))
+    (λ is. and_then (edited_field of.catalog is of.field) (λ field. and_then (edited_parts of.catalog field of.value of.cond []) (λ all. Ok all.part))) plan of.is in
+    let second = and_then-Ok (edited_field of.catalog first.0 of.field) (λ field. and_then (edited_parts of.catalog field of.value of.cond []) (λ all. Ok all.part)) plan first.2 in
+    let third = and_then-Ok (edited_parts of.catalog second.0 of.value of.cond []) (λ all. Ok all.part) plan second.2 in
+    let whole : HasAllOfEdit third.0 = edit-leaves of.catalog second.0 of.value of.cond [] third.0 third.1 in
+    let fit : Fit third.0.leaves = keeps-edit of.catalog second.0 of.cond of.value [] third.0 third.1 tt in
+    let same : third.0.part ≡ plan = cc in
+    let leaves : third.0.leaves ≡ plan.leaves = sym whole ∙ ap (λ (one : PlannedEdit). one.leaves) same in
     subst Fit leaves fit

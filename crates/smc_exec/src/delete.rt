@@ -1,19 +1,19 @@
 //! Deletes: the objects whose rows a plan keeps are removed.
-ghost use Rattle.std.specs.Prelude.{◌≡◌, ◌<◌, ◌≤◌, IfOk, OnErr, length};
+ghost use Rattle.std.specs.Prelude.{◌≡◌, ◌<◌, ◌≤◌, IfOk, IfSome, OnErr, length};
 ghost use Rattle.std.specs.List.{AllByRecursion};
 ghost use Rattle.smc_region.specs.Callers.{IsPassOf, IsSame};
 ghost use Rattle.smc_does.specs.Does.{DoesSome};
 ghost use Rattle.smc_objects.specs.Alone.{InSection};
 ghost use Rattle.smc_plan.specs.Leaves.{leaves_words};
 ghost use Rattle.smc_plan.specs.Planned.{filter_condition, plan_tree};
-ghost use Rattle.smc_meaning.specs.Conditions.{IsFilter};
+ghost use Rattle.smc_plan.specs.Kinds.{IsTyped};
 ghost use Rattle.smc_visits.specs.Edits.{FitsEdit};
 ghost use Rattle.smc_visits.specs.Rows.{FitsRecord};
 ghost use Rattle.smc_exec.specs.Deletes.{DeletesRows, deletes};
 ghost use Rattle.smc_exec.specs.Plans.{IsPlanned};
 
 use crate::buffer::row_buffer;
-use crate::laws::plans_can_filter;
+use crate::laws::queries_can_run;
 use smc_meaning::kept;
 use smc_plan::Plan;
 use smc_region::{Pass, Region};
@@ -34,7 +34,8 @@ impl<'a> Model for Deleting<'a> {
     ghost use Rattle.smc_plan.specs.contracts.typed.Typed as typed;
     ghost use Rattle.smc_plan.specs.declared.plan.Plan.{Plan};
     ghost use Rattle.smc_plan.specs.Planned.{filter_condition};
-    ghost use Rattle.smc_meaning.specs.Conditions.{IsFilter};
+    ghost use Rattle.std.specs.Prelude.{IfSome};
+    ghost use Rattle.smc_plan.specs.Kinds.{IsTyped};
 
     ghost Value = { Plan };
 
@@ -42,7 +43,7 @@ impl<'a> Model for Deleting<'a> {
 
     ghost view = { λ deleting. deleting.plan.now };
 
-    ghost invariant = { λ deleting. IsFilter deleting.plan.now.leaves (filter_condition deleting.plan.now.filter) };
+    ghost invariant = { λ deleting. IfSome (filter_condition deleting.plan.now.filter) (IsTyped deleting.plan.now.leaves) };
 }
 
 impl<'a> DecideEdit for Deleting<'a> {
@@ -70,7 +71,7 @@ fn delete_typed(plan: &Plan, row: &mut [u64], pass: Pass, region: &Region, coll:
     requires here { IsPassOf region.now pass }
     requires coll { coll < length pass.shape.colls }
     requires fits { AllByRecursion FitsRecord plan.now.leaves }
-    requires typed { IsFilter plan.now.leaves (filter_condition plan.now.filter) }
+    requires typed { IfSome (filter_condition plan.now.filter) (IsTyped plan.now.leaves) }
     requires long { length row.old ≡ leaves_words plan.now.leaves }
     ensures done { DoesSome pass result.0 (InSection (DeletesRows pass.shape coll (plan_tree plan.now) result.1)) }
     ensures home { IsSame pass result.0 }
@@ -99,7 +100,7 @@ pub fn delete_rows(
     ensures kept { OnErr result.1 (result.0 ≡ pass) }
     ensures home { IsSame pass result.0 }
 {
-    plans_can_filter();
+    queries_can_run();
     let mut row = match row_buffer(alloc, plan.words()) {
         Ok(row) => row,
         Err(fault) => return (pass, Err(fault)),
