@@ -192,3 +192,13 @@ pub self_can : (leaves : List Leaf) (tree : TypedTree) (kind : Kind) → kind_in
 self_can leaves tree kind is =
     let compared = self_compared leaves tree kind is in
     record { left = kind; right = kind; left_is = is; right_is = is; comparable = compared.0; narrow = compared.1 }
+
+-- an expression of some kind is what its sort says
+pub own_number : (leaves : List Leaf) (tree : TypedTree) (kind : Kind) → kind_in leaves tree ≡ Ok kind → sort_of leaves tree ≡ OfNumber → IsNumber leaves tree
+own_number leaves tree kind is sort = left_number leaves tree tree (self_can leaves tree kind is) sort
+
+pub own_day : (leaves : List Leaf) (tree : TypedTree) (kind : Kind) → kind_in leaves tree ≡ Ok kind → sort_of leaves tree ≡ OfDay → IsDay leaves tree
+own_day leaves tree kind is sort = left_day leaves tree tree (self_can leaves tree kind is) sort
+
+pub own_text : (leaves : List Leaf) (tree : TypedTree) (kind : Kind) → kind_in leaves tree ≡ Ok kind → sort_of leaves tree ≡ OfText → IsText leaves tree
+own_text leaves tree kind is sort = left_text leaves tree tree (self_can leaves tree kind is) sort

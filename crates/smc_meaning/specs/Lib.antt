@@ -5,6 +5,8 @@ pub mod Decimals
 pub mod Texts
 pub mod Comparing
 pub mod Kept
+pub mod Edited
+pub mod Shown
 pub mod Sorting
 pub mod Groups
 pub mod Answers
