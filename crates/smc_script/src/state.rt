@@ -2,6 +2,7 @@
 ghost use Rattle.std.specs.Prelude.{◌≤◌, length};
 ghost use Rattle.smc_shape.specs.declared.shape.TheConstants.{MAX_COLLS};
 
+use crate::names::Names;
 use crate::script::Part;
 
 /// Whether rooms may still be asked for.
@@ -26,6 +27,7 @@ pub struct Reader {
     pub phase: Phase,
     /// In the order of the tables' numbers.
     pub rooms: Vec<Asked>,
+    pub names: Names,
     pub parts: Vec<Part>,
     ghost few: { length rooms.items ≤ MAX_COLLS },
 }
