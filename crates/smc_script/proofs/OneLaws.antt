@@ -97,6 +97,7 @@ verb-one laws catalog names verb.Query text one other (tree, is, says) (tree', i
     is ∙ ap (λ (t : QueryTree). query t) (query-one laws.thing text tree tree' says says') ∙ sym is'
 verb-one laws catalog names verb.Compact text one other is is' = some-one one other (sym is ∙ is')
 verb-one laws catalog names verb.Stat text one other is is' = some-one one other (sym is ∙ is')
+verb-one laws catalog names verb.Drop text one other is is' = some-one one other (sym is ∙ is')
 
 -- a line says one thing
 says-one : Readings → (catalog : Catalog) (names : List Given) (line : List ℕ) (one other : SaidTree) → LineSays catalog names line one → LineSays catalog names line other → one ≡ other

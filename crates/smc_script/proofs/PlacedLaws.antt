@@ -1,5 +1,5 @@
 -- What was read is sound: its commands are placed at rooms, and what they add or set fits their tables.
-use Rattle.std.proofs.Common.{◌≡◌, ℕ, List, [], ◌∷◌, ◌++◌, map, get_or, slice_get, length, Bool, true, false, Option, None, Some, refl, sym, ap, ◌∙◌, subst}
+use Rattle.std.proofs.Common.{◌≡◌, ℕ, List, [], ◌∷◌, ◌++◌, map, get_or, slice_get, length, Bool, true, false, Option, None, Some, codes, bytes_eq, refl, sym, ap, ◌∙◌, subst}
 use Rattle.std.proofs.lemmas.Bool.{eqb-true}
 use Rattle.std.proofs.lemmas.List.Quantifiers.{position-Some}
 use Rattle.std.proofs.lemmas.Option.{slice_get-get_or, slice_get-map}
@@ -20,9 +20,9 @@ use Rattle.smc_types.specs.declared.row.Value.{Value}
 use Rattle.smc_types.specs.declared.schema.Schema.{Schema}
 use Rattle.smc_script.specs.Faults.{fault_where, has_room, is_doing, is_given, is_no_room, is_placed, knows, knows_folds, name_fault, room_fault}
 use Rattle.smc_script.specs.Names.{Given, is_script_name, table_given}
-use Rattle.smc_script.specs.Says.{LineSays, VerbSays, SaidTree, SaysAdd, SaysSet, SaysValue, SpellsRowOf, room, load, add, get, set, remove, query, compact, stat, is_file_name, kind_named, load_said, name_said, room_said, slots_asked, table_said}
+use Rattle.smc_script.specs.Says.{LineSays, VerbSays, SaidTree, SaysAdd, SaysSet, SaysValue, SpellsRowOf, room, load, add, get, set, remove, query, compact, stat, drop_fold, drop_said, is_file_name, kind_named, load_said, name_said, room_said, slots_asked, table_said}
 use Rattle.smc_script.specs.Sound.{EachCommand, FitsColumn, FitsTable, IsFit, IsPlaced, IsPlacedAmong, IsRoomPlace, place_in}
-use Rattle.smc_script.specs.States.{ReadState, after, names_after, place_named, place_of, placed, query_table, room_at, with_command, with_room}
+use Rattle.smc_script.specs.States.{ReadState, after, dropped_after, names_after, place_named, place_of, placed, query_table, room_at, with_command, with_room}
 use Rattle.smc_script.specs.Tables.{column_kind, is_editable, kind_of, may_write, table_named}
 use Rattle.smc_script.specs.Trees as trees
 use Rattle.smc_script.specs.Trees.{CommandTree, NumberedTree, PartTree, one, group}
@@ -149,6 +149,14 @@ name-fits say catalog names (name ∷ []) said each is =
 name-fits say catalog names [] said each is = absurd cc
 name-fits say catalog names (x ∷ y ∷ more) said each is = absurd cc
 
+drop-fits : (catalog : Catalog) (names : List Given) (list : List Word) (said : SaidTree) → drop_said list ≡ Some said → SaidFits catalog names said
+drop-fits catalog names (word ∷ name ∷ []) said is =
+    of-test (SaidFits catalog names) (bytes_eq word (codes "fold") && is_script_name name) (Some (drop_fold name)) said
+    (λ same. subst (SaidFits catalog names) (some-one (drop_fold name) said same) tt) is
+drop-fits catalog names [] said is = absurd cc
+drop-fits catalog names (x ∷ []) said is = absurd cc
+drop-fits catalog names (x ∷ y ∷ z ∷ more) said is = absurd cc
+
 -- what is added fits its table
 add-fits : Fits → (catalog : Catalog) (names : List Given) (text : List ℕ) (said : SaidTree) → SaysAdd catalog text said → SaidFits catalog names said
 add-fits laws catalog names text said a =
@@ -183,6 +191,7 @@ line-fits laws catalog names line said says = go says.command says.says
     go verb.Query (tree, is, query') = subst (SaidFits catalog names) (sym is) tt
     go verb.Compact is = table-fits compact catalog names (words says.text) said (λ table. tt) is
     go verb.Stat is = table-fits stat catalog names (words says.text) said (λ table. tt) is
+    go verb.Drop is = drop-fits catalog names (words says.text) said is
 
 -- a value of a column that may be written fits the column of the named object
 column-fits : (catalog : Catalog) (table : Option ℕ) (column : Word) (value : Value) (kind : FieldType) → kind_of catalog table column ≡ Some kind → value_fault kind value ≡ None
@@ -227,9 +236,9 @@ room-good catalog state table slots good is =
     }
 
 -- one more command with a place that fits leaves what was read good
-command-good : (catalog : Catalog) (state : ReadState) (names : List Given) (line : ℕ) (command : CommandTree) → IsGood catalog state
-    → IsPlacedAmong (rooms_of state.rooms) command → IsFit catalog command → IsGood catalog (with_command (record state { names = names }) line (Some command))
-command-good catalog state names line command good is fits = record {
+command-good : (catalog : Catalog) (state : ReadState) (names : List Given) (dropped : List Word) (line : ℕ) (command : CommandTree) → IsGood catalog state
+    → IsPlacedAmong (rooms_of state.rooms) command → IsFit catalog command → IsGood catalog (with_command (record state { names = names; dropped = dropped }) line (Some command))
+command-good catalog state names dropped line command good is fits = record {
   before = λ asking. absurd (doing asking);
   placed = all-more (IsPlaced (rooms_of state.rooms)) state.parts (one (record { line = line; command = command })) good.placed is;
   fits = all-more (EachCommand (IsFit catalog)) state.parts (one (record { line = line; command = command })) good.fits fits;
@@ -244,24 +253,26 @@ pub after-good : (catalog : Catalog) (folds : List Word) (state : ReadState) (li
 after-good catalog folds state line (room table (Some slots)) good fits opens is = room-good catalog state table slots good opens
 after-good catalog folds state line (room table None) good fits opens is = good
 after-good catalog folds state line (load table file) good fits opens is =
-    command-good catalog state state.names line _ good (has-place state.rooms table is) tt
+    command-good catalog state state.names state.dropped line _ good (has-place state.rooms table is) tt
 after-good catalog folds state line (add table name row) good fits opens is =
-    command-good catalog state (names_after state.names (add table name row)) line _ good
+    command-good catalog state (names_after state.names (add table name row)) state.dropped line _ good
     (has-place state.rooms table (first-true (has_room state.rooms table) (not (is_some (table_given state.names name))) is)) fits
 after-good catalog folds state line (get name) good fits opens is =
-    command-good catalog state state.names line _ good (named-place state.rooms (table_given state.names name) is) tt
+    command-good catalog state state.names state.dropped line _ good (named-place state.rooms (table_given state.names name) is) tt
 after-good catalog folds state line (set name column (Some value)) good fits opens is =
     let kind = kind_named catalog state.names name column in
-    command-good catalog state state.names line _ good
+    command-good catalog state state.names state.dropped line _ good
     (named-place state.rooms (table_given state.names name) (first-true (is_given state name) (may_write kind) is))
     (column-fits catalog (table_given state.names name) column value fits.0 fits.1 fits.2 (second-true (is_given state name) (may_write kind) is))
 after-good catalog folds state line (set name column None) good fits opens is = good
 after-good catalog folds state line (remove name) good fits opens is =
-    command-good catalog state state.names line _ good (named-place state.rooms (table_given state.names name) is) tt
+    command-good catalog state state.names state.dropped line _ good (named-place state.rooms (table_given state.names name) is) tt
 after-good catalog folds state line (query tree) good fits opens is =
-    command-good catalog state state.names line _ good
-    (named-place state.rooms (table_named catalog tree.table) (first-true (is_placed state.rooms (table_named catalog tree.table)) (knows_folds folds tree.items) is)) tt
+    command-good catalog state state.names state.dropped line _ good
+    (named-place state.rooms (table_named catalog tree.table) (first-true (is_placed state.rooms (table_named catalog tree.table)) (knows_folds folds state.dropped tree.items) is)) tt
 after-good catalog folds state line (compact table) good fits opens is =
-    command-good catalog state state.names line _ good (has-place state.rooms table is) tt
+    command-good catalog state state.names state.dropped line _ good (has-place state.rooms table is) tt
 after-good catalog folds state line (stat table) good fits opens is =
-    command-good catalog state state.names line _ good (has-place state.rooms table is) tt
+    command-good catalog state state.names state.dropped line _ good (has-place state.rooms table is) tt
+after-good catalog folds state line (drop_fold name) good fits opens is =
+    command-good catalog state state.names (dropped_after state.dropped (drop_fold name)) line _ good tt tt

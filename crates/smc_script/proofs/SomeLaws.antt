@@ -27,7 +27,7 @@ use Rattle.smc_types.specs.declared.schema.Schema.{Schema}
 use Rattle.smc_script.specs.Faults.{LineGives, passed_over, no_text, no_command, command, said_fault, taken}
 use Rattle.smc_script.specs.Laws.{GivesSome, HasRefused, SpellsSome}
 use Rattle.smc_script.specs.Names.{Given}
-use Rattle.smc_script.specs.Says.{LineSays, VerbSays, SaidTree, QuerySays, SaysAdd, SaysQuery, SaysSet, SaysValue, SpellsRowOf, add, get, remove, set, query, compact, stat, is_set, kind_named, load_said, name_said, room_said, table_added, table_said, verb_of}
+use Rattle.smc_script.specs.Says.{LineSays, VerbSays, SaidTree, QuerySays, SaysAdd, SaysQuery, SaysSet, SaysValue, SpellsRowOf, add, get, remove, set, query, compact, stat, drop_said, is_set, kind_named, load_said, name_said, room_said, table_added, table_said, verb_of}
 use Rattle.smc_script.specs.Scripts.{IsPastLimit, LinesGive}
 use Rattle.smc_script.specs.States.{ReadState, script_of, start}
 use Rattle.smc_script.specs.Trees.{ScriptTree}
@@ -253,6 +253,7 @@ verb-known laws catalog names verb.Query text =
     query-known text (short-known text (nat_le (length text) MAX_TEXT) refl (let what = laws.some query_text text in query-by laws.one text (what.0) (what.1)))
 verb-known laws catalog names verb.Compact text = found-known (table_said compact catalog (words text))
 verb-known laws catalog names verb.Stat text = found-known (table_said stat catalog (words text))
+verb-known laws catalog names verb.Drop text = found-known (drop_said (words text))
 
 -- a line says something, or nothing
 abbrev Says : Catalog → List Given → List ℕ → Type 0

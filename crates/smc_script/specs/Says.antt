@@ -40,6 +40,7 @@ pub data SaidTree : Type 0 where
   set : (name column : Word) → (value : Option Value) → SaidTree
   query : QueryTree → SaidTree
   compact stat : (table : ℕ) → SaidTree
+  drop_fold : (name : Word) → SaidTree
 
 -- the tree of what a line says
 abbrev pub said_tree : Said → SaidTree
@@ -52,6 +53,7 @@ said_tree (of.Remove name) = remove name
 said_tree (of.Query query') = query (query_tree query')
 said_tree (of.Compact table) = compact table
 said_tree (of.Stat table) = stat table
+said_tree (of.DropFold name) = drop_fold name
 
 -- ---- commands that are words alone
 
@@ -90,6 +92,11 @@ table_said say catalog words = None
 abbrev pub name_said : (Word → SaidTree) → List Word → Option SaidTree
 name_said say (name ∷ []) = if is_script_name name then Some (say name) else None
 name_said say words = None
+
+-- fold NAME
+abbrev pub drop_said : List Word → Option SaidTree
+drop_said (word ∷ name ∷ []) = if bytes_eq word (codes "fold") && is_script_name name then Some (drop_fold name) else None
+drop_said words = None
 
 -- ---- commands that end in a text
 
@@ -160,6 +167,7 @@ verb_of word =
     else if bytes_eq word (codes "query") then Some verb.Query
     else if bytes_eq word (codes "compact") then Some verb.Compact
     else if bytes_eq word (codes "stat") then Some verb.Stat
+    else if bytes_eq word (codes "drop") then Some verb.Drop
     else None
 
 -- the text behind the word of a command says this
@@ -173,6 +181,7 @@ VerbSays catalog names verb.Remove text said = name_said remove (words text) ≡
 VerbSays catalog names verb.Query text said = QuerySays text said
 VerbSays catalog names verb.Compact text said = table_said compact catalog (words text) ≡ Some said
 VerbSays catalog names verb.Stat text said = table_said stat catalog (words text) ≡ Some said
+VerbSays catalog names verb.Drop text said = drop_said (words text) ≡ Some said
 
 -- the line says this: the word of a command, a space, and a text that says it
 pub record LineSays (catalog : Catalog) (names : List Given) (line : List ℕ) (said : SaidTree) : Type 0 where

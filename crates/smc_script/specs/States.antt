@@ -6,7 +6,7 @@ use Rattle.smc_query.specs.Trees.{Word, QueryTree}
 use Rattle.smc_shape.specs.declared.coll.CollShape.{CollShape}
 use Rattle.smc_types.specs.declared.catalog.Catalog.{Catalog}
 use Rattle.smc_script.specs.Names.{Given, table_given, with_name}
-use Rattle.smc_script.specs.Says.{SaidTree, room, load, add, get, remove, set, query, compact, stat}
+use Rattle.smc_script.specs.Says.{SaidTree, room, load, add, get, remove, set, query, compact, stat, drop_fold}
 use Rattle.smc_script.specs.Tables.{table_named, table_width}
 use Rattle.smc_script.specs.Trees as trees
 use Rattle.smc_script.specs.Trees.{CommandTree, PartTree, ScriptTree, part_tree}
@@ -17,20 +17,28 @@ use Rattle.smc_script.specs.declared.state.Phase.TheVariants.{Asking, Doing}
 use Rattle.smc_script.specs.declared.script.Place.{Place}
 use Rattle.smc_script.specs.declared.script.Room.{Room}
 
--- what was read of a script: whether commands have begun, the rooms in the order of their tables, the names, and the parts
+-- What was read of a script: whether commands have begun, the rooms in the order of their tables, the names that were given,
+-- the names of the folds that were dropped, and the parts.
 pub record ReadState : Type 0 where
   pub phase : Phase
   pub rooms : List Asked
   pub names : List Given
+  pub dropped : List Word
   pub parts : List PartTree
 
 -- what a reader shows
 abbrev pub reading : Reader → ReadState
-reading reader = record { phase = reader.phase; rooms = reader.rooms.items; names = reader.names; parts = map part_tree reader.parts.items }
+reading reader = record {
+  phase = reader.phase;
+  rooms = reader.rooms.items;
+  names = reader.names;
+  dropped = reader.dropped.items;
+  parts = map part_tree reader.parts.items;
+}
 
 -- nothing was read
 abbrev pub start : ReadState
-start = record { phase = Asking; rooms = []; names = []; parts = [] }
+start = record { phase = Asking; rooms = []; names = []; dropped = []; parts = [] }
 
 -- the rooms with one more, behind those of tables with a smaller number
 abbrev pub with_room : Asked → List Asked → List Asked
@@ -72,11 +80,17 @@ command_said catalog state (remove name) = Some (trees.remove (place_named state
 command_said catalog state (query tree) = Some (trees.query (place_of state.rooms (query_table catalog tree)) tree)
 command_said catalog state (compact table) = Some (trees.compact (place_of state.rooms table))
 command_said catalog state (stat table) = Some (trees.stat (place_of state.rooms table))
+command_said catalog state (drop_fold name) = Some (trees.drop_fold name)
 
 -- the names that are known behind a line that says this
 abbrev pub names_after : List Given → SaidTree → List Given
 names_after names (add table name row) = with_name name table names
 names_after names said = names
+
+-- the folds that are dropped behind a line that says this
+abbrev pub dropped_after : List Word → SaidTree → List Word
+dropped_after dropped (drop_fold name) = dropped ++ name ∷ []
+dropped_after dropped said = dropped
 
 -- what was read, with one more command
 abbrev pub with_command : ReadState → ℕ → Option CommandTree → ReadState
@@ -89,7 +103,8 @@ with_command state line (Some command) = record state {
 -- what was read, with the line that says this
 abbrev pub after : Catalog → ReadState → ℕ → SaidTree → ReadState
 after catalog state line (room table (Some slots)) = record state { rooms = with_room (record { table = table; slots = slots }) state.rooms }
-after catalog state line said = with_command (record state { names = names_after state.names said }) line (command_said catalog state said)
+after catalog state line said =
+    with_command (record state { names = names_after state.names said; dropped = dropped_after state.dropped said }) line (command_said catalog state said)
 
 -- a room with its place
 abbrev pub placed : List Asked → Asked → Room

@@ -117,15 +117,18 @@ pub fn read_script<S: Source>(
 #[cfg(test)]
 mod tests {
     use super::*;
+    use crate::name::FoldName;
     use smc_outside::MemSource;
     use smc_types::tpch;
     use std::test::Fail;
 
-    // The first refused line of a text and its kind, where it has one.
+    // The first refused line of a text and its kind, where it has one. There is one fold.
     fn refused(alloc: Global, text: &[u8]) -> Result<Option<ScriptFault>, Fail> {
         let mut source = MemSource::new(text.to_vec(alloc)?, 9, Vec::new(alloc));
         let catalog = tpch(alloc)?;
-        Ok(read_script(alloc, &mut source, &catalog, FoldNames::of(Vec::new(alloc))).err())
+        let mut folds = Vec::new(alloc);
+        folds.push(FoldName::of(alloc, "median")?)?;
+        Ok(read_script(alloc, &mut source, &catalog, FoldNames::of(folds)).err())
     }
 
     #[test]
@@ -194,6 +197,26 @@ mod tests {
             ),
             (b"set y regionkey 1.5\n", Some((1, ScriptKind::Name))),
             (b"set y regionkey\n", Some((1, ScriptKind::Grammar))),
+            (b"drop fold median\n", None),
+            (
+                b"drop fold median\ndrop fold median\n",
+                Some((2, ScriptKind::Name)),
+            ),
+            (b"drop fold medians\n", Some((1, ScriptKind::Name))),
+            (b"drop fold Median\n", Some((1, ScriptKind::Grammar))),
+            (b"drop folds median\n", Some((1, ScriptKind::Grammar))),
+            (
+                b"drop fold median\nroom region 64\n",
+                Some((2, ScriptKind::Room)),
+            ),
+            (
+                b"room region 64\nquery from region show fold median(regionkey)\ndrop fold median\n",
+                None,
+            ),
+            (
+                b"room region 64\ndrop fold median\nquery from region show fold median(regionkey)\n",
+                Some((3, ScriptKind::Name)),
+            ),
             (b"frob\n", Some((1, ScriptKind::Grammar))),
             (b"room region  64\n", Some((1, ScriptKind::Grammar))),
             (b"\xff\n", Some((1, ScriptKind::Grammar))),

@@ -6,7 +6,7 @@ ghost use Rattle.smc_lines.specs.Ahead.{Counts};
 ghost use Rattle.smc_query.specs.Trees.{call_tree, query_tree, item_tree};
 ghost use Rattle.smc_shape.specs.declared.shape.TheConstants.{MAX_COLLS};
 ghost use Rattle.smc_script.specs.Faults as fault;
-ghost use Rattle.smc_script.specs.Faults.{LineGives, fault_where, line_answer, is_given, is_placed, is_too_large, knows_call, knows_folds, said_fault, taken};
+ghost use Rattle.smc_script.specs.Faults.{LineGives, fault_where, line_answer, is_given, is_left, is_placed, is_too_large, knows_call, knows_folds, said_fault, taken};
 ghost use Rattle.smc_query.specs.Trees.{Word};
 ghost use Rattle.smc_script.specs.Says as says;
 ghost use Rattle.smc_script.specs.Says.{said_tree};
@@ -20,7 +20,7 @@ ghost use Rattle.smc_script.specs.Trees.{command_tree, script_tree};
 
 use crate::command::Command;
 use crate::fault::ScriptKind;
-use crate::name::{FoldNames, ScriptName};
+use crate::name::{FoldName, FoldNames, ScriptName};
 use crate::names::Names;
 use crate::said::{Said, read_said};
 use crate::script::{Numbered, Part, Parts, Place, Room, Rooms, Script};
@@ -116,34 +116,43 @@ fn is_too_large(alloc: Global, catalog: &Catalog, rooms: &[Asked]) -> Result<boo
     }
 }
 
-// Whether a fold of this name was handed in.
-fn is_fold(folds: &FoldNames, name: &str) -> bool
+// Whether a fold has this name.
+fn has_fold(folds: &[FoldName], name: &str) -> bool
     ensures { result ≡ list_any (λ known. bytes_eq known name.now) folds.now }
 {
-    folds.as_slice().iter().any(|known| known.as_str() == name)
+    folds.iter().any(|known| known.as_str() == name)
 }
 
-fn knows_call(folds: &FoldNames, call: &ItemCall) -> bool
-    ensures { result ≡ knows_call folds.now (call_tree call.now) }
+// Whether a fold of this name was handed in, and none of this name dropped.
+fn is_left(folds: &FoldNames, dropped: &[FoldName], name: &str) -> bool
+    ensures { result ≡ is_left folds.now dropped.now name.now }
+{
+    has_fold(folds.as_slice(), name) & !has_fold(dropped, name)
+}
+
+fn knows_call(folds: &FoldNames, dropped: &[FoldName], call: &ItemCall) -> bool
+    ensures { result ≡ knows_call folds.now dropped.now (call_tree call.now) }
 {
     match call {
-        ItemCall::Fold { name, .. } => is_fold(folds, name.as_str()),
+        ItemCall::Fold { name, .. } => is_left(folds, dropped, name.as_str()),
         _ => true,
     }
 }
 
-// Whether each fold of these columns was handed in.
-fn knows_items(folds: &FoldNames, items: &[Item]) -> bool
-    ensures { result ≡ list_all (λ item. knows_call folds.now (call_tree item.call)) items.now }
+// Whether each fold of these columns is left.
+fn knows_items(folds: &FoldNames, dropped: &[FoldName], items: &[Item]) -> bool
+    ensures { result ≡ list_all (λ item. knows_call folds.now dropped.now (call_tree item.call)) items.now }
 {
-    items.iter().all(|item| knows_call(folds, &item.call))
+    items
+        .iter()
+        .all(|item| knows_call(folds, dropped, &item.call))
 }
 
-// Whether each fold of the query was handed in.
-fn knows_folds(folds: &FoldNames, query: &Query) -> bool
-    ensures { result ≡ knows_folds folds.now (query_tree query.now).items }
+// Whether each fold of the query is left.
+fn knows_folds(folds: &FoldNames, dropped: &[FoldName], query: &Query) -> bool
+    ensures { result ≡ knows_folds folds.now dropped.now (query_tree query.now).items }
 {
-    knows_items(folds, query.items.as_slice())
+    knows_items(folds, dropped, query.items.as_slice())
 }
 
 // The kind of a line whose names are not all good.
@@ -167,6 +176,7 @@ impl Reader {
             phase: Phase::Asking,
             rooms: Vec::new(alloc),
             names: Names::new(alloc),
+            dropped: Vec::new(alloc),
             parts: Vec::new(alloc),
         }
     }
@@ -219,12 +229,12 @@ impl Reader {
         self.is_given(name) & may_write(kind)
     }
 
-    // Whether the query is over a table with a room, and its folds were handed in.
+    // Whether the query is over a table with a room, and its folds are left.
     fn is_known(&self, catalog: &Catalog, folds: &FoldNames, query: &Query) -> bool
-        ensures { result ≡ (is_placed self.now.rooms.items (table_named catalog.now query.now.table) && knows_folds folds.now (query_tree query.now).items) }
+        ensures { result ≡ (is_placed self.now.rooms.items (table_named catalog.now query.now.table) && knows_folds folds.now self.now.dropped.items (query_tree query.now).items) }
     {
         match table_named(catalog, query.table.as_str()) {
-            Some(table) => has_room(&self.rooms, table) & knows_folds(folds, query),
+            Some(table) => has_room(&self.rooms, table) & knows_folds(folds, &self.dropped, query),
             None => false,
         }
     }
@@ -251,6 +261,9 @@ impl Reader {
             Said::Query { query } => Ok(name_fault(self.is_known(catalog, folds, query))),
             Said::Compact { table } => Ok(name_fault(has_room(&self.rooms, *table))),
             Said::Stat { table } => Ok(name_fault(has_room(&self.rooms, *table))),
+            Said::DropFold { name } => {
+                Ok(name_fault(is_left(folds, &self.dropped, name.as_str())))
+            }
         }
     }
 
@@ -314,6 +327,14 @@ impl Reader {
         self.names.give(alloc, name.as_str(), table)?;
         let place = self.place(table);
         self.take_command(line, Command::Add { place, name, row })
+    }
+
+    // Takes the dropping of a fold, which is known no more from here on.
+    fn take_drop(&mut self, alloc: Global, line: u64, name: FoldName) -> Result<(), NoMemory>
+        ensures { OnOk result ((catalog : _) → reading self.new ≡ after catalog (reading self.old) line (says.drop_fold name)) }
+    {
+        self.dropped.push(FoldName::of(alloc, name.as_str())?)?;
+        self.take_command(line, Command::DropFold { name })
     }
 
     // Takes a value to be set, where there is one.
@@ -382,6 +403,7 @@ impl Reader {
             Said::Stat { table } => Command::Stat {
                 place: self.place(table),
             },
+            Said::DropFold { name } => return self.take_drop(alloc, line, name),
         };
         self.take_command(line, command)
     }

@@ -1,15 +1,16 @@
 //! What a line says, by the names that were given before it and by nothing else that went before.
-ghost use Rattle.std.specs.Prelude.{◌≡◌, ℕ, true, IfOk, option_map};
+ghost use Rattle.std.specs.Prelude.{◌≡◌, ◌&&◌, ℕ, true, codes, bytes_eq, IfOk, option_map};
 ghost use Rattle.std.specs.Char.{is_ascii_digit};
 ghost use Rattle.std.specs.List.{list_all};
 ghost use Rattle.smc_lines.specs.Numbers.{is_number};
 ghost use Rattle.smc_lines.specs.Words.{words};
 ghost use Rattle.smc_query.specs.Trees.{Word};
+ghost use Rattle.smc_script.specs.Names as naming;
 ghost use Rattle.smc_script.specs.Says as spec;
-ghost use Rattle.smc_script.specs.Says.{IsSaid, IsSaidBy, SaidTree, compact, get, load_said, name_said, remove, room_said, said_tree, stat, slots_asked, slots_within, table_said};
+ghost use Rattle.smc_script.specs.Says.{IsSaid, IsSaidBy, SaidTree, compact, drop_said, get, load_said, name_said, remove, room_said, said_tree, stat, slots_asked, slots_within, table_said};
 
 use crate::limits::{MAX_DIGITS, MAX_FILE, MAX_SLOTS};
-use crate::name::{FileName, ScriptName, is_script_name};
+use crate::name::{FileName, FoldName, ScriptName, is_script_name};
 use crate::names::Names;
 use crate::query::say_query;
 use crate::row::{say_add, say_set};
@@ -60,6 +61,9 @@ pub enum Said {
     },
     Stat {
         table: u32,
+    },
+    DropFold {
+        name: FoldName,
     },
 }
 
@@ -213,6 +217,27 @@ fn say_stat(catalog: &Catalog, text: &str) -> Option<Said>
     read_table(catalog, Words::of(text)).map(|table| Said::Stat { table })
 }
 
+fn is_drop(word: &str, name: &str) -> bool
+    ensures { result ≡ (bytes_eq word.now (codes "fold") && naming.is_script_name name.now) }
+{
+    (word == "fold") & is_script_name(name)
+}
+
+// fold NAME
+fn read_drop(alloc: Global, mut words: Words<'_>) -> Result<Option<Said>, NoMemory>
+    ensures { IfOk result (λ said. option_map said_tree said ≡ drop_said words.entry) }
+{
+    let (Some(word), Some(name), None) = (words.next_word(), words.next_word(), words.next_word())
+    else {
+        return Ok(None);
+    };
+    if !is_drop(word, name) {
+        return Ok(None);
+    }
+    let name = FoldName::of(alloc, name)?;
+    Ok(Some(Said::DropFold { name }))
+}
+
 // What the text behind the word of a command says.
 fn read_behind(
     alloc: Global,
@@ -233,6 +258,7 @@ fn read_behind(
         Verb::Query => say_query(alloc, text),
         Verb::Compact => Ok(say_compact(catalog, text)),
         Verb::Stat => Ok(say_stat(catalog, text)),
+        Verb::Drop => read_drop(alloc, Words::of(text)),
     }
 }
 

@@ -14,6 +14,7 @@ pub enum Verb {
     Query,
     Compact,
     Stat,
+    Drop,
 }
 
 /// The command that begins with this word.
@@ -46,6 +47,9 @@ pub fn verb_of(word: &str) -> Option<Verb>
     }
     if word == "stat" {
         return Some(Verb::Stat);
+    }
+    if word == "drop" {
+        return Some(Verb::Drop);
     }
     None
 }
