@@ -13,8 +13,10 @@ pub mod ValueCases
 pub mod Existence
 pub mod PrintLaws
 pub mod FitLaws
+pub mod AloneLaws
 pub mod RespellLaws
 pub mod RoundTrip
 pub mod LengthLaws
 pub mod WordLaws
 pub mod WordNumbers
+pub mod RowFits
