@@ -1,11 +1,11 @@
 -- What was read is sound: its commands are placed at rooms, and what they add or set fits their tables.
-use Rattle.std.proofs.Common.{◌≡◌, ℕ, List, [], ◌∷◌, ◌++◌, map, get_or, slice_get, length, Bool, true, false, Option, None, Some, codes, bytes_eq, refl, sym, ap, ◌∙◌, subst}
+use Rattle.std.proofs.Common.{◌≡◌, ℕ, List, [], ◌∷◌, ◌++◌, map, get_or, slice_get, Bool, true, false, Option, None, Some, codes, bytes_eq, refl, sym, ap, ◌∙◌, subst}
 use Rattle.std.proofs.lemmas.Bool.{eqb-true}
 use Rattle.std.proofs.lemmas.List.Quantifiers.{position-Some}
 use Rattle.std.proofs.lemmas.Option.{slice_get-get_or, slice_get-map}
 use Rattle.std.specs.List.{All, AllByRecursion}
 use Rattle.std.specs.Option.{option_map, unwrap_or}
-use Rattle.std.specs.Prelude.{⊤, IfSome, is_some, not, position, ◌==◌, ◌&&◌, ◌||◌, if◌then◌else◌}
+use Rattle.std.specs.Prelude.{⊤, is_some, not, ◌==◌, ◌&&◌, ◌||◌, if◌then◌else◌}
 use Rattle.smc_lines.specs.Numbers.{is_number}
 use Rattle.smc_lines.specs.Words.{words}
 use Rattle.smc_query.specs.Trees.{Word}
@@ -18,17 +18,15 @@ use Rattle.smc_types.specs.declared.catalog.Catalog.{Catalog}
 use Rattle.smc_types.specs.declared.column.FieldType.{FieldType}
 use Rattle.smc_types.specs.declared.row.Value.{Value}
 use Rattle.smc_types.specs.declared.schema.Schema.{Schema}
-use Rattle.smc_script.specs.Faults.{fault_where, has_room, is_doing, is_given, is_no_room, is_placed, knows, knows_folds, name_fault, room_fault}
+use Rattle.smc_script.specs.Faults.{fault_where, has_room, is_doing, is_given, is_no_room, is_placed, knows, knows_folds, room_fault}
 use Rattle.smc_script.specs.Names.{Given, is_script_name, table_given}
 use Rattle.smc_script.specs.Says.{LineSays, VerbSays, SaidTree, ColumnSays, CondSays, EditSays, RowSays, SaysSet, SaysValue, TwoThen, room, load, add, get, set, remove, delete, update, query, compact, stat, column_before, drop_fold, drop_said, is_file_name, kind_named, load_said, name_said, room_said, slots_asked, table_added, table_before, table_said}
-use Rattle.smc_script.specs.Sound.{EachCommand, FitsColumn, FitsTable, IsFit, IsPlaced, IsPlacedAmong, IsRoomPlace, place_in}
-use Rattle.smc_script.specs.States.{ReadState, after, dropped_after, names_after, place_named, place_of, placed, query_table, room_at, with_command, with_room}
-use Rattle.smc_script.specs.Tables.{column_kind, is_editable, kind_of, may_write, table_named}
-use Rattle.smc_script.specs.Trees as trees
-use Rattle.smc_script.specs.Trees.{CommandTree, NumberedTree, PartTree, one, group}
+use Rattle.smc_script.specs.Sound.{EachCommand, FitsColumn, FitsTable, IsFit, IsPlaced, IsPlacedAmong, IsRoomPlace}
+use Rattle.smc_script.specs.States.{ReadState, after, dropped_after, names_after, place_of, placed, room_at, with_command, with_room}
+use Rattle.smc_script.specs.Tables.{column_kind, kind_of, may_write, table_named}
+use Rattle.smc_script.specs.Trees.{CommandTree, PartTree, one}
 use Rattle.smc_script.specs.declared.fault.ScriptKind.{ScriptKind}
-use Rattle.smc_script.specs.declared.fault.ScriptKind.TheVariants.{Name, Room}
-use Rattle.smc_script.specs.declared.script.Place.{Place}
+use Rattle.smc_script.specs.declared.fault.ScriptKind.TheVariants.{Room}
 use Rattle.smc_script.specs.declared.script.Room.{Room as RoomOf}
 use Rattle.smc_script.specs.declared.state.Asked.{Asked}
 use Rattle.smc_script.specs.declared.state.Phase.{Phase}

@@ -1,5 +1,5 @@
 -- Rows that are added and values that are set, and how they are read from the texts of lines.
-use Rattle.std.proofs.Common.{◌≡◌, ◌≢◌, ℕ, List, [], ◌∷◌, Bool, true, false, Option, None, Some, Ok, Err, refl, sym, ap, ◌∙◌, subst}
+use Rattle.std.proofs.Common.{◌≡◌, ◌≢◌, ℕ, List, [], ◌∷◌, true, false, Option, None, Some, Ok, Err, sym, ap, ◌∙◌, subst}
 use Rattle.std.specs.declared.result.Result.{Result}
 use Rattle.smc_lines.specs.Words.{words}
 use Rattle.smc_query.specs.Trees.{Word}
@@ -12,7 +12,7 @@ use Rattle.smc_types.specs.declared.column.FieldType.{FieldType}
 use Rattle.smc_types.specs.declared.row.Value.{Value}
 use Rattle.smc_types.specs.declared.schema.Schema.{Schema}
 use Rattle.smc_script.specs.Names.{Given}
-use Rattle.smc_script.specs.Says.{SaidTree, RowSays, SaysSet, SaysValue, SpellsRowOf, IsRowRead, IsValueRead, set, is_row_memory, is_set, kind_named}
+use Rattle.smc_script.specs.Says.{SaidTree, RowSays, SaysSet, SaysValue, IsRowRead, IsValueRead, set, is_row_memory, is_set, kind_named}
 use Rattle.smc_script.specs.Tables.{schema_of}
 use Rattle.smc_script.proofs.SaysLaws.{first_word, later, some-one}
 

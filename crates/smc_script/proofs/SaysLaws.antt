@@ -12,11 +12,11 @@ use Rattle.smc_lang.specs.Texts.{IsFaultOf, ReadsText}
 use Rattle.smc_lang.specs.declared.fault.ParseFault.{ParseFault}
 use Rattle.smc_lang.specs.declared.fault.ParseFault.TheVariants.{TooLong, TooDeep, At, NoMemory}
 use Rattle.smc_lang.specs.declared.limits.TheConstants.{MAX_TEXT}
-use Rattle.smc_query.specs.Trees.{Word, Answer, Form, QueryTree, a_cond, a_query, an_edit, cond_text, edit_text, query_text, query_tree}
+use Rattle.smc_query.specs.Trees.{Word, Answer, Form, a_cond, a_query, an_edit, cond_text, edit_text, query_text, query_tree}
 use Rattle.smc_query.specs.declared.query.Query.{Query}
 use Rattle.smc_types.specs.declared.catalog.Catalog.{Catalog}
 use Rattle.smc_script.specs.Names.{Given}
-use Rattle.smc_script.specs.Says.{SaidTree, LineSays, VerbSays, QuerySays, SaysQuery, IsSaid, IsSaidBy, IsReadAs, IsCondRead, IsEditRead, IsQueryRead, CondSays, EditSays, TwoThen, is_memory, query, said_tree, verb_of}
+use Rattle.smc_script.specs.Says.{SaidTree, LineSays, VerbSays, QuerySays, IsSaid, IsSaidBy, IsReadAs, IsCondRead, IsEditRead, IsQueryRead, CondSays, EditSays, TwoThen, is_memory, said_tree, verb_of}
 use Rattle.smc_script.specs.declared.said.Said.{Said}
 use Rattle.smc_script.specs.declared.said.Said.TheVariants as of
 use Rattle.smc_script.specs.declared.verb.Verb.{Verb}

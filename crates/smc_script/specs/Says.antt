@@ -1,5 +1,5 @@
 -- What a line says, by the names that were given before it and by nothing else that went before.
-use Rattle.std.specs.Prelude.{◌≡◌, ◌≢◌, ℕ, ◌*◌, ◌≤◌, Bool, true, false, ◌&&◌, nat_lt, nat_le, if◌then◌else◌, List, [], ◌∷◌, length, codes, Option, Some, None}
+use Rattle.std.specs.Prelude.{◌≡◌, ℕ, ◌*◌, ◌≤◌, Bool, true, false, ◌&&◌, nat_lt, nat_le, if◌then◌else◌, List, [], ◌∷◌, length, codes, Option, Some, None}
 use Rattle.std.specs.Int.{div_ceil}
 use Rattle.std.specs.List.{list_all}
 use Rattle.std.specs.Option.{option_map}
@@ -20,7 +20,6 @@ use Rattle.smc_tbl.specs.declared.fault.TblFault.{TblFault}
 use Rattle.smc_tbl.specs.declared.fault.TblFault.TheVariants as row_fault
 use Rattle.smc_types.specs.declared.catalog.Catalog.{Catalog}
 use Rattle.smc_types.specs.declared.column.FieldType.{FieldType}
-use Rattle.smc_types.specs.declared.row.Row.{Row}
 use Rattle.smc_types.specs.declared.row.Value.{Value}
 use Rattle.smc_types.specs.declared.schema.Schema.{Schema}
 use Rattle.smc_shape.specs.declared.coll.TheConstants.{BLOCK_SLOTS}

@@ -1,4 +1,4 @@
-use Rattle.std.proofs.Common.{codes, sym}
+use Rattle.std.proofs.Common.{sym}
 use Rattle.smc_script.specs.Says.{RowSays, table_added}
 use Rattle.smc_script.proofs.SaysLaws.{no-cut, no-head, two-answered}
 use Rattle.smc_script.proofs.row.say_add.Goals as goal
