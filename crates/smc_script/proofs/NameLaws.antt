@@ -1,5 +1,5 @@
 -- The names of a map, and the map with one more.
-use Rattle.std.proofs.Common.{◌≡◌, ℕ, Bool, true, false, cond, List, [], ◌∷◌, map, String, string_bytes, string_cmp, nat_cmp, is_eq, Ordering, Less, Equal, Greater, Option, Some, refl, ap, ◌∙◌}
+use Rattle.std.proofs.Common.{◌≡◌, ℕ, cond, List, [], ◌∷◌, String, string_bytes, string_cmp, nat_cmp, is_eq, Ordering, Less, Equal, Greater, Some, refl, ap, ◌∙◌}
 use Rattle.std.specs.BTreeMap.{insert_entry}
 use Rattle.std.specs.Cmp.Lexicographic.{slice_cmp}
 use Rattle.std.specs.Map.{lookup}

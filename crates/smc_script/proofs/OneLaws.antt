@@ -1,5 +1,5 @@
 -- A text gives one outcome at most.
-use Rattle.std.proofs.Common.{◌≡◌, ◌≤◌, arith, ℕ, ◌+◌, List, [], ◌∷◌, ◌++◌, inl, inr, length, Bool, true, false, Option, None, Some, Ok, Err, refl, sym, ap, ◌∙◌, subst}
+use Rattle.std.proofs.Common.{◌≡◌, ◌≤◌, arith, ℕ, ◌+◌, List, [], ◌∷◌, ◌++◌, inl, inr, length, codes, Bool, true, false, Option, None, Some, Ok, Err, refl, sym, ap, ◌∙◌, subst}
 use Rattle.std.proofs.lemmas.List.{length-append}
 use Rattle.std.proofs.lemmas.List.Elements.{All-head, All-tail}
 use Rattle.std.specs.declared.result.Result.{Result}
@@ -11,7 +11,7 @@ use Rattle.smc_lines.specs.Lines.{lines, IsShort, IsWithin}
 use Rattle.smc_lines.specs.Reading.{PassesLimit}
 use Rattle.smc_lines.specs.declared.fault.LinesFault.{LinesFault}
 use Rattle.smc_lines.specs.declared.fault.LinesFault.TheVariants as limit
-use Rattle.smc_query.specs.Trees.{Word, QueryTree, a_query, query_text}
+use Rattle.smc_query.specs.Trees.{Word, QueryTree, a_cond, a_query, an_edit, cond_text, edit_text, query_text}
 use Rattle.smc_tbl.specs.Alone.{SpellsAlone}
 use Rattle.smc_tbl.specs.TableText.{Gives, GivesOne as GivesOneRow}
 use Rattle.smc_tbl.specs.declared.fault.TblFault.{TblFault}
@@ -22,14 +22,14 @@ use Rattle.smc_types.specs.declared.schema.Schema.{Schema}
 use Rattle.smc_script.specs.Faults.{LineGives, passed_over, no_text, no_command, command, said_fault, taken}
 use Rattle.smc_script.specs.Laws.{GivesOne}
 use Rattle.smc_script.specs.Names.{Given}
-use Rattle.smc_script.specs.Says.{LineSays, VerbSays, SaidTree, SaysAdd, SaysQuery, SaysSet, SaysValue, SpellsRowOf, add, kind_named, query, set}
+use Rattle.smc_script.specs.Says.{LineSays, VerbSays, SaidTree, ColumnSays, CondSays, EditSays, RowSays, SaysQuery, SaysSet, SaysValue, SpellsRowOf, TwoThen, add, column_before, delete, kind_named, query, set, table_added, table_before, update}
 use Rattle.smc_script.specs.Scripts.{GoesOn, LinesGive, Outcome, limit_fault}
 use Rattle.smc_script.specs.States.{ReadState}
 use Rattle.smc_script.specs.declared.fault.ScriptKind.{ScriptKind}
 use Rattle.smc_script.specs.declared.verb.Verb.{Verb}
 use Rattle.smc_script.specs.declared.verb.Verb.TheVariants as verb
-use Rattle.smc_script.proofs.RowLaws.{add-at, set-at}
-use Rattle.smc_script.proofs.SaysLaws.{behind-says, later, some-one}
+use Rattle.smc_script.proofs.RowLaws.{set-at}
+use Rattle.smc_script.proofs.SaysLaws.{behind-says, later, some-one, two-at}
 
 -- ---- what a line says
 
@@ -62,13 +62,43 @@ row-one law catalog table text one other (schema, is, spells) (schema', is', spe
     let here : Gives schema text (Ok other) = subst (λ (s : Schema). Gives s text (Ok other)) (some-one schema' schema (sym is' ∙ is)) spells' in
     ap (λ (r : Result (List Value) TblFault). row_in r one) (only (Ok one) spells ∙ sym (only (Ok other) here))
 
--- an addition is one
-add-one : Readings → (catalog : Catalog) (text : List ℕ) (one other : SaidTree) → SaysAdd catalog text one → SaysAdd catalog text other → one ≡ other
-add-one laws catalog text one other a says =
-    let b = add-at catalog text a.table a.name a.row_text other a.cut says in
-    let number : b.number ≡ a.number = some-one b.number a.number (sym b.head ∙ a.head) in
-    let row = row-one laws.row catalog a.number a.row_text b.row a.row (subst (λ (n : ℕ). SpellsRowOf catalog n a.row_text b.row) number b.spells) a.spells in
-    a.says ∙ sym (b.says ∙ ap (λ (n : ℕ). add n a.name b.row) number ∙ ap (λ (r : List Value). add a.number a.name r) row)
+-- what stands behind two words says one thing, where it does behind each two words
+two-one : (head : Word → Word → Option ℕ) (reads : ℕ → Word → Word → List ℕ → SaidTree → Type 0) (text : List ℕ)
+    → ((table : ℕ) (first second : Word) (behind : List ℕ) (one other : SaidTree) → reads table first second behind one → reads table first second behind other → one ≡ other)
+    → (one other : SaidTree) → TwoThen head reads text one → TwoThen head reads text other → one ≡ other
+two-one head reads text each one other two says =
+    each two.table two.first two.second two.behind one other two.says (two-at head reads text two.first two.second two.behind two.table other two.cut two.is says)
+
+-- a text is one row to be added
+added-one : Readings → (catalog : Catalog) (table : ℕ) (name : Word) (text : List ℕ) (one other : SaidTree) → RowSays catalog table name text one → RowSays catalog table name text other
+    → one ≡ other
+added-one laws catalog table name text one other (row, is, spells) (row', is', spells') =
+    is ∙ ap (λ (r : List Value). add table name r) (row-one laws.row catalog table text row row' spells spells') ∙ sym is'
+
+-- the deletion that a thing is, where it is one
+abbrev cond_said : ℕ → Thing → SaidTree → SaidTree
+cond_said table (read (a_cond cond)) other = delete table cond
+cond_said table thing other = other
+
+-- a text is one condition
+cond-one : IsOneThing → (table : ℕ) (text : List ℕ) (one other : SaidTree) → CondSays table text one → CondSays table text other → one ≡ other
+cond-one thing table text one other (cond, is, (short, reads)) (cond', is', (short', reads')) =
+    is ∙ ap (λ (t : Thing). cond_said table t one) (thing cond_text text (read (a_cond cond)) (read (a_cond cond')) reads reads') ∙ sym is'
+
+-- the update that a thing is, where it is one
+abbrev edit_said : ℕ → Word → Thing → SaidTree → SaidTree
+edit_said table column (read (an_edit value filter)) other = update table column value filter
+edit_said table column thing other = other
+
+-- a text is one value with its condition
+edit-one : IsOneThing → (table : ℕ) (column : Word) (text : List ℕ) (one other : SaidTree) → EditSays table column text one → EditSays table column text other → one ≡ other
+edit-one thing table column text one other (value, filter, is, (short, reads)) (value', filter', is', (short', reads')) =
+    is ∙ ap (λ (t : Thing). edit_said table column t one) (thing edit_text text (read (an_edit value filter)) (read (an_edit value' filter')) reads reads') ∙ sym is'
+
+-- a text is one column with its value
+column-one : IsOneThing → (table : ℕ) (text : List ℕ) (one other : SaidTree) → ColumnSays table text one → ColumnSays table text other → one ≡ other
+column-one thing table text one other says says' =
+    two-one (column_before table) (λ same column _. EditSays same column) text (λ same column sign. edit-one thing same column) one other says says'
 
 -- a text is one value of a column
 value-one : Readings → (kind : Option FieldType) (text : List ℕ) (one other : Option Value) → SaysValue kind text one → SaysValue kind text other → one ≡ other
@@ -89,10 +119,15 @@ verb-one : Readings → (catalog : Catalog) (names : List Given) (command : Verb
     → VerbSays catalog names command text other → one ≡ other
 verb-one laws catalog names verb.Room text one other is is' = some-one one other (sym is ∙ is')
 verb-one laws catalog names verb.Load text one other is is' = some-one one other (sym is ∙ is')
-verb-one laws catalog names verb.Add text one other is is' = add-one laws catalog text one other is is'
+verb-one laws catalog names verb.Add text one other is is' =
+    two-one (table_added catalog) (λ table _ name. RowSays catalog table name) text (λ table word name. added-one laws catalog table name) one other is is'
 verb-one laws catalog names verb.Get text one other is is' = some-one one other (sym is ∙ is')
 verb-one laws catalog names verb.Set text one other is is' = set-one laws catalog names text one other is is'
 verb-one laws catalog names verb.Remove text one other is is' = some-one one other (sym is ∙ is')
+verb-one laws catalog names verb.Delete text one other is is' =
+    two-one (table_before catalog (codes "where")) (λ table _ _. CondSays table) text (λ table word other. cond-one laws.thing table) one other is is'
+verb-one laws catalog names verb.Update text one other is is' =
+    two-one (table_before catalog (codes "set")) (λ table _ _. ColumnSays table) text (λ table word other. column-one laws.thing table) one other is is'
 verb-one laws catalog names verb.Query text one other (tree, is, says) (tree', is', says') =
     is ∙ ap (λ (t : QueryTree). query t) (query-one laws.thing text tree tree' says says') ∙ sym is'
 verb-one laws catalog names verb.Compact text one other is is' = some-one one other (sym is ∙ is')

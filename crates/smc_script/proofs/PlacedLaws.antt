@@ -1,11 +1,11 @@
 -- What was read is sound: its commands are placed at rooms, and what they add or set fits their tables.
-use Rattle.std.proofs.Common.{◌≡◌, ℕ, List, [], ◌∷◌, ◌++◌, map, get_or, slice_get, length, Bool, true, false, Option, None, Some, codes, bytes_eq, refl, sym, ap, ◌∙◌, subst}
+use Rattle.std.proofs.Common.{◌≡◌, ℕ, List, [], ◌∷◌, ◌++◌, map, get_or, slice_get, Bool, true, false, Option, None, Some, codes, bytes_eq, refl, sym, ap, ◌∙◌, subst}
 use Rattle.std.proofs.lemmas.Bool.{eqb-true}
 use Rattle.std.proofs.lemmas.List.Quantifiers.{position-Some}
 use Rattle.std.proofs.lemmas.Option.{slice_get-get_or, slice_get-map}
 use Rattle.std.specs.List.{All, AllByRecursion}
 use Rattle.std.specs.Option.{option_map, unwrap_or}
-use Rattle.std.specs.Prelude.{⊤, IfSome, is_some, not, position, ◌==◌, ◌&&◌, ◌||◌, if◌then◌else◌}
+use Rattle.std.specs.Prelude.{⊤, is_some, not, ◌==◌, ◌&&◌, ◌||◌, if◌then◌else◌}
 use Rattle.smc_lines.specs.Numbers.{is_number}
 use Rattle.smc_lines.specs.Words.{words}
 use Rattle.smc_query.specs.Trees.{Word}
@@ -18,17 +18,15 @@ use Rattle.smc_types.specs.declared.catalog.Catalog.{Catalog}
 use Rattle.smc_types.specs.declared.column.FieldType.{FieldType}
 use Rattle.smc_types.specs.declared.row.Value.{Value}
 use Rattle.smc_types.specs.declared.schema.Schema.{Schema}
-use Rattle.smc_script.specs.Faults.{fault_where, has_room, is_doing, is_given, is_no_room, is_placed, knows, knows_folds, name_fault, room_fault}
+use Rattle.smc_script.specs.Faults.{fault_where, has_room, is_doing, is_given, is_no_room, is_placed, knows, knows_folds, room_fault}
 use Rattle.smc_script.specs.Names.{Given, is_script_name, table_given}
-use Rattle.smc_script.specs.Says.{LineSays, VerbSays, SaidTree, SaysAdd, SaysSet, SaysValue, SpellsRowOf, room, load, add, get, set, remove, query, compact, stat, drop_fold, drop_said, is_file_name, kind_named, load_said, name_said, room_said, slots_asked, table_said}
-use Rattle.smc_script.specs.Sound.{EachCommand, FitsColumn, FitsTable, IsFit, IsPlaced, IsPlacedAmong, IsRoomPlace, place_in}
-use Rattle.smc_script.specs.States.{ReadState, after, dropped_after, names_after, place_named, place_of, placed, query_table, room_at, with_command, with_room}
-use Rattle.smc_script.specs.Tables.{column_kind, is_editable, kind_of, may_write, table_named}
-use Rattle.smc_script.specs.Trees as trees
-use Rattle.smc_script.specs.Trees.{CommandTree, NumberedTree, PartTree, one, group}
+use Rattle.smc_script.specs.Says.{LineSays, VerbSays, SaidTree, ColumnSays, CondSays, EditSays, RowSays, SaysSet, SaysValue, TwoThen, room, load, add, get, set, remove, delete, update, query, compact, stat, column_before, drop_fold, drop_said, is_file_name, kind_named, load_said, name_said, room_said, slots_asked, table_added, table_before, table_said}
+use Rattle.smc_script.specs.Sound.{EachCommand, FitsColumn, FitsTable, IsFit, IsPlaced, IsPlacedAmong, IsRoomPlace}
+use Rattle.smc_script.specs.States.{ReadState, after, dropped_after, names_after, place_of, placed, room_at, with_command, with_room}
+use Rattle.smc_script.specs.Tables.{column_kind, kind_of, may_write, table_named}
+use Rattle.smc_script.specs.Trees.{CommandTree, PartTree, one}
 use Rattle.smc_script.specs.declared.fault.ScriptKind.{ScriptKind}
-use Rattle.smc_script.specs.declared.fault.ScriptKind.TheVariants.{Name, Room}
-use Rattle.smc_script.specs.declared.script.Place.{Place}
+use Rattle.smc_script.specs.declared.fault.ScriptKind.TheVariants.{Room}
 use Rattle.smc_script.specs.declared.script.Room.{Room as RoomOf}
 use Rattle.smc_script.specs.declared.state.Asked.{Asked}
 use Rattle.smc_script.specs.declared.state.Phase.{Phase}
@@ -157,13 +155,16 @@ drop-fits catalog names [] said is = absurd cc
 drop-fits catalog names (x ∷ []) said is = absurd cc
 drop-fits catalog names (x ∷ y ∷ z ∷ more) said is = absurd cc
 
+-- what holds of all that stands behind two words holds of what they say
+two-fits : (holds : SaidTree → Type 0) (head : Word → Word → Option ℕ) (reads : ℕ → Word → Word → List ℕ → SaidTree → Type 0) (text : List ℕ) (said : SaidTree)
+    → ((table : ℕ) (first second : Word) (behind : List ℕ) → reads table first second behind said → holds said) → TwoThen head reads text said → holds said
+two-fits holds head reads text said each two = each two.table two.first two.second two.behind two.says
+
 -- what is added fits its table
-add-fits : Fits → (catalog : Catalog) (names : List Given) (text : List ℕ) (said : SaidTree) → SaysAdd catalog text said → SaidFits catalog names said
-add-fits laws catalog names text said a =
-    subst (SaidFits catalog names) (sym a.says) (row-fits a.spells)
-  where
-    row-fits : SpellsRowOf catalog a.number a.row_text a.row → FitsTable catalog a.number a.row
-    row-fits (schema, is, spells) = record { schema = schema; is = is; fits = laws.row schema a.row_text a.row spells; texts = laws.texts schema a.row_text a.row spells }
+row-fits : Fits → (catalog : Catalog) (names : List Given) (table : ℕ) (name : Word) (text : List ℕ) (said : SaidTree) → RowSays catalog table name text said → SaidFits catalog names said
+row-fits laws catalog names table name text said (row, is, (schema, same, spells)) =
+    subst (SaidFits catalog names) (sym is)
+    (record { schema = schema; is = same; fits = laws.row schema text row spells; texts = laws.texts schema text row spells })
 
 -- what is set fits its column
 value-fits : Fits → (catalog : Catalog) (names : List Given) (name column text : Word) (value : Option Value) (kind : Option FieldType) → kind_named catalog names name column ≡ kind
@@ -184,10 +185,19 @@ line-fits laws catalog names line said says = go says.command says.says
     go : (command : _) → VerbSays catalog names command says.text said → SaidFits catalog names said
     go verb.Room is = room-fits catalog names (words says.text) said is
     go verb.Load is = load-fits catalog names (words says.text) said is
-    go verb.Add is = add-fits laws catalog names says.text said is
+    go verb.Add is =
+        two-fits (SaidFits catalog names) (table_added catalog) (λ table _ name. RowSays catalog table name) says.text said
+        (λ table word name behind. row-fits laws catalog names table name behind said) is
     go verb.Get is = name-fits get catalog names (words says.text) said (λ name. tt) is
     go verb.Set is = set-fits laws catalog names says.text said is
     go verb.Remove is = name-fits remove catalog names (words says.text) said (λ name. tt) is
+    go verb.Delete is =
+        two-fits (SaidFits catalog names) (table_before catalog (codes "where")) (λ table _ _. CondSays table) says.text said
+        (λ table word other behind cond. subst (SaidFits catalog names) (sym cond.1) tt) is
+    go verb.Update is =
+        two-fits (SaidFits catalog names) (table_before catalog (codes "set")) (λ table _ _. ColumnSays table) says.text said
+        (λ table word other behind column. two-fits (SaidFits catalog names) (column_before table) (λ same name _. EditSays same name) behind said
+        (λ same name sign rest edit. subst (SaidFits catalog names) (sym edit.2) tt) column) is
     go verb.Query (tree, is, query') = subst (SaidFits catalog names) (sym is) tt
     go verb.Compact is = table-fits compact catalog names (words says.text) said (λ table. tt) is
     go verb.Stat is = table-fits stat catalog names (words says.text) said (λ table. tt) is
@@ -267,6 +277,11 @@ after-good catalog folds state line (set name column (Some value)) good fits ope
 after-good catalog folds state line (set name column None) good fits opens is = good
 after-good catalog folds state line (remove name) good fits opens is =
     command-good catalog state state.names state.dropped line _ good (named-place state.rooms (table_given state.names name) is) tt
+after-good catalog folds state line (delete table cond) good fits opens is =
+    command-good catalog state state.names state.dropped line _ good (has-place state.rooms table is) tt
+after-good catalog folds state line (update table column value filter) good fits opens is =
+    command-good catalog state state.names state.dropped line _ good
+    (has-place state.rooms table (first-true (has_room state.rooms table) (may_write (column_kind catalog table column)) is)) tt
 after-good catalog folds state line (query tree) good fits opens is =
     command-good catalog state state.names state.dropped line _ good
     (named-place state.rooms (table_named catalog tree.table) (first-true (is_placed state.rooms (table_named catalog tree.table)) (knows_folds folds state.dropped tree.items) is)) tt

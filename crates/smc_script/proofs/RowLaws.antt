@@ -1,5 +1,5 @@
 -- Rows that are added and values that are set, and how they are read from the texts of lines.
-use Rattle.std.proofs.Common.{◌≡◌, ◌≢◌, ℕ, List, [], ◌∷◌, Bool, true, false, Option, None, Some, Ok, Err, refl, sym, ap, ◌∙◌, subst}
+use Rattle.std.proofs.Common.{◌≡◌, ◌≢◌, ℕ, List, [], ◌∷◌, true, false, Option, None, Some, Ok, Err, sym, ap, ◌∙◌, subst}
 use Rattle.std.specs.declared.result.Result.{Result}
 use Rattle.smc_lines.specs.Words.{words}
 use Rattle.smc_query.specs.Trees.{Word}
@@ -12,9 +12,9 @@ use Rattle.smc_types.specs.declared.column.FieldType.{FieldType}
 use Rattle.smc_types.specs.declared.row.Value.{Value}
 use Rattle.smc_types.specs.declared.schema.Schema.{Schema}
 use Rattle.smc_script.specs.Names.{Given}
-use Rattle.smc_script.specs.Says.{SaidTree, SaysAdd, SaysSet, SaysValue, SpellsRowOf, IsRowRead, IsValueRead, add, set, is_row_memory, is_set, kind_named, table_added}
+use Rattle.smc_script.specs.Says.{SaidTree, RowSays, SaysSet, SaysValue, IsRowRead, IsValueRead, set, is_row_memory, is_set, kind_named}
 use Rattle.smc_script.specs.Tables.{schema_of}
-use Rattle.smc_script.proofs.SaysLaws.{first_word, later, some-one, words-one}
+use Rattle.smc_script.proofs.SaysLaws.{first_word, later, some-one}
 
 -- ---- rows
 
@@ -46,49 +46,9 @@ fault-row one catalog table text schema fault is told memory row (other, same, s
 pub no-schema : (catalog : Catalog) (table : ℕ) (text : List ℕ) → schema_of catalog table ≡ None → IsRowRead catalog table text None
 no-schema catalog table text none row (schema, is, spells) = let no : None ≡ Some schema = sym none ∙ is in absurd cc
 
--- ---- rows that are added
-
--- what an addition says, by the words that it begins with
-pub record AddAt (catalog : Catalog) (first second behind : List ℕ) (said : SaidTree) : Type 0 where
-  pub number : ℕ
-  pub row : List Value
-  pub head : table_added catalog first second ≡ Some number
-  pub spells : SpellsRowOf catalog number behind row
-  pub says : said ≡ add number second row
-
-pub add-at : (catalog : Catalog) (text first second behind : List ℕ) (said : SaidTree) → words text ≡ first ∷ second ∷ words behind → SaysAdd catalog text said
-    → AddAt catalog first second behind said
-add-at catalog text first second behind said is a =
-    let same : a.table ∷ a.name ∷ words a.row_text ≡ first ∷ second ∷ words behind = sym a.cut ∙ is in
-    let table : a.table ≡ first = ap first_word same in
-    let name : a.name ≡ second = ap (λ (w : List Word). first_word (later w)) same in
-    let row : a.row_text ≡ behind = words-one a.row_text behind (ap (λ (w : List Word). later (later w)) same) in record {
-      number = a.number;
-      row = a.row;
-      head = subst (λ (t : Word). table_added catalog t second ≡ Some a.number) table (subst (λ (n : Word). table_added catalog a.table n ≡ Some a.number) name a.head);
-      spells = subst (λ (t : List ℕ). SpellsRowOf catalog a.number t a.row) row a.spells;
-      says = a.says ∙ ap (λ (n : Word). add a.number n a.row) name;
-    }
-
--- without two words and a text nothing is added
-pub no-cut : (catalog : Catalog) (text : List ℕ) → ((first second behind : List ℕ) → words text ≢ first ∷ second ∷ words behind) → (said : SaidTree) → ¬ SaysAdd catalog text said
-no-cut catalog text none said a = none a.table a.name a.row_text a.cut
-
--- nor without a table and a name
-pub no-table : (catalog : Catalog) (text first second behind : List ℕ) → words text ≡ first ∷ second ∷ words behind → None ≡ table_added catalog first second
-    → (said : SaidTree) → ¬ SaysAdd catalog text said
-no-table catalog text first second behind is none said a =
-    let at = add-at catalog text first second behind said is a in
-    let no : None ≡ Some at.number = none ∙ at.head in
-    absurd cc
-
--- nor without a row
-pub no-row : (catalog : Catalog) (text first second behind : List ℕ) (number : ℕ) → words text ≡ first ∷ second ∷ words behind → Some number ≡ table_added catalog first second
-    → IsRowRead catalog number behind None → (said : SaidTree) → ¬ SaysAdd catalog text said
-no-row catalog text first second behind number is head none said a =
-    let at = add-at catalog text first second behind said is a in
-    let same : at.number ≡ number = some-one at.number number (sym at.head ∙ sym head) in
-    none at.row (subst (λ (n : ℕ). SpellsRowOf catalog n behind at.row) same at.spells)
+-- a text that is no row says nothing of the table
+pub no-row : (catalog : Catalog) (table : ℕ) (name : Word) (text : List ℕ) → IsRowRead catalog table text None → (said : SaidTree) → ¬ RowSays catalog table name text said
+no-row catalog table name text none said (row, is, spells) = none row spells
 
 -- ---- values that are set
 
@@ -126,9 +86,9 @@ pub no-words : (catalog : Catalog) (names : List Given) (text : List ℕ) → ((
 no-words catalog names text none said s = none s.name s.column s.value_text s.cut
 
 -- nor without a name and a column
-pub no-head : (catalog : Catalog) (names : List Given) (text : List ℕ) (name column value_text : Word) → words text ≡ name ∷ column ∷ value_text ∷ [] → is_set name column ≡ false
+pub no-set : (catalog : Catalog) (names : List Given) (text : List ℕ) (name column value_text : Word) → words text ≡ name ∷ column ∷ value_text ∷ [] → is_set name column ≡ false
     → (said : SaidTree) → ¬ SaysSet catalog names text said
-no-head catalog names text name column value_text is none said s =
+no-set catalog names text name column value_text is none said s =
     let at = set-at catalog names text name column value_text said is s in
     let no : false ≡ true = sym none ∙ at.head in
     absurd cc

@@ -12,11 +12,11 @@ use Rattle.smc_lang.specs.Texts.{IsFaultOf, ReadsText}
 use Rattle.smc_lang.specs.declared.fault.ParseFault.{ParseFault}
 use Rattle.smc_lang.specs.declared.fault.ParseFault.TheVariants.{TooLong, TooDeep, At, NoMemory}
 use Rattle.smc_lang.specs.declared.limits.TheConstants.{MAX_TEXT}
-use Rattle.smc_query.specs.Trees.{Word, QueryTree, a_query, query_text, query_tree}
+use Rattle.smc_query.specs.Trees.{Word, Answer, Form, a_cond, a_query, an_edit, cond_text, edit_text, query_text, query_tree}
 use Rattle.smc_query.specs.declared.query.Query.{Query}
 use Rattle.smc_types.specs.declared.catalog.Catalog.{Catalog}
 use Rattle.smc_script.specs.Names.{Given}
-use Rattle.smc_script.specs.Says.{SaidTree, LineSays, VerbSays, QuerySays, SaysQuery, IsSaid, IsSaidBy, IsReadAs, IsQueryRead, is_memory, query, said_tree, verb_of}
+use Rattle.smc_script.specs.Says.{SaidTree, LineSays, VerbSays, QuerySays, IsSaid, IsSaidBy, IsReadAs, IsCondRead, IsEditRead, IsQueryRead, CondSays, EditSays, TwoThen, is_memory, said_tree, verb_of}
 use Rattle.smc_script.specs.declared.said.Said.{Said}
 use Rattle.smc_script.specs.declared.said.Said.TheVariants as of
 use Rattle.smc_script.specs.declared.verb.Verb.{Verb}
@@ -120,13 +120,84 @@ pub query-said : (text : List ℕ) (found : Option Query) → IsQueryRead text f
 query-said text (Some found) says = (query_tree found, refl, says)
 query-said text None none = no-query text none
 
--- a fault of a text says that it is no query
-pub fault-none : IsOneThing → (text : List ℕ) (fault : ParseFault) → IsFaultOf query_text text fault → is_memory fault ≡ false → IsQueryRead text None
-fault-none one text TooLong long is tree (short, reads) = absurd (omega arith)
-fault-none one text (TooDeep at) deep' is tree (short, reads) =
-    let no : read (a_query tree) ≡ deep at = one query_text text (read (a_query tree)) (deep at) reads deep' in
+-- a text of a form that has a fault is read as nothing
+fault-none : IsOneThing → (form : Form) (text : List ℕ) (fault : ParseFault) (answer : Answer) → IsFaultOf form text fault → is_memory fault ≡ false → length text ≤ MAX_TEXT
+    → ¬ ReadsText form text answer
+fault-none one form text TooLong answer long is short reads = absurd (omega arith)
+fault-none one form text (TooDeep at) answer deep' is short reads =
+    let no : read answer ≡ deep at = one form text (read answer) (deep at) reads deep' in
     absurd cc
-fault-none one text (At at) wrong' is tree (short, reads) =
-    let no : read (a_query tree) ≡ wrong at = one query_text text (read (a_query tree)) (wrong at) reads wrong' in
+fault-none one form text (At at) answer wrong' is short reads =
+    let no : read answer ≡ wrong at = one form text (read answer) (wrong at) reads wrong' in
     absurd cc
-fault-none one text NoMemory any is tree (short, reads) = absurd cc
+fault-none one form text NoMemory answer any is short reads = absurd cc
+
+-- so it is no query, no condition, and no value
+pub query-none : IsOneThing → (text : List ℕ) (fault : ParseFault) → IsFaultOf query_text text fault → is_memory fault ≡ false → IsQueryRead text None
+query-none one text fault told is tree (short, reads) = fault-none one query_text text fault (a_query tree) told is short reads
+
+pub cond-none : IsOneThing → (text : List ℕ) (fault : ParseFault) → IsFaultOf cond_text text fault → is_memory fault ≡ false → IsCondRead text None
+cond-none one text fault told is cond (short, reads) = fault-none one cond_text text fault (a_cond cond) told is short reads
+
+pub edit-none : IsOneThing → (text : List ℕ) (fault : ParseFault) → IsFaultOf edit_text text fault → is_memory fault ≡ false → IsEditRead text None
+edit-none one text fault told is value filter (short, reads) = fault-none one edit_text text fault (an_edit value filter) told is short reads
+
+-- a text that is no condition, or no value, says nothing of a table
+pub no-cond : (table : ℕ) (text : List ℕ) → IsCondRead text None → (said : SaidTree) → ¬ CondSays table text said
+no-cond table text none said (cond, is, says) = none cond says
+
+pub no-edit : (table : ℕ) (column : Word) (text : List ℕ) → IsEditRead text None → (said : SaidTree) → ¬ EditSays table column text said
+no-edit table column text none said (value, filter, is, says) = none value filter says
+
+-- ---- two words and a text
+
+-- what two words and a text say, by those that were found
+pub two-at : (head : Word → Word → Option ℕ) (reads : ℕ → Word → Word → List ℕ → SaidTree → Type 0) (text first second behind : List ℕ) (table : ℕ) (said : SaidTree)
+    → words text ≡ first ∷ second ∷ words behind → head first second ≡ Some table → TwoThen head reads text said → reads table first second behind said
+two-at head reads text first second behind table said is found two =
+    let same : two.first ∷ two.second ∷ words two.behind ≡ first ∷ second ∷ words behind = sym two.cut ∙ is in
+    let one : two.first ≡ first = ap first_word same in
+    let other : two.second ≡ second = ap (λ (w : List Word). first_word (later w)) same in
+    let rest : two.behind ≡ behind = words-one two.behind behind (ap (λ (w : List Word). later (later w)) same) in
+    let number : two.table ≡ table =
+    some-one two.table table (sym two.is ∙ ap (λ (w : Word). head w two.second) one ∙ ap (head first) other ∙ found) in
+    subst (λ (t : List ℕ). reads table first second t said) rest
+    (subst (λ (w : Word). reads table first w two.behind said) other
+    (subst (λ (w : Word). reads table w two.second two.behind said) one
+    (subst (λ (n : ℕ). reads n two.first two.second two.behind said) number two.says)))
+
+-- without two words and a text nothing is said
+pub no-cut : (head : Word → Word → Option ℕ) (reads : ℕ → Word → Word → List ℕ → SaidTree → Type 0) (text : List ℕ)
+    → ((first second behind : List ℕ) → words text ≢ first ∷ second ∷ words behind) → (said : SaidTree) → ¬ TwoThen head reads text said
+no-cut head reads text none said two = none two.first two.second two.behind two.cut
+
+-- nor where the words name no table
+pub no-head : (head : Word → Word → Option ℕ) (reads : ℕ → Word → Word → List ℕ → SaidTree → Type 0) (text first second behind : List ℕ)
+    → words text ≡ first ∷ second ∷ words behind → head first second ≡ None → (said : SaidTree) → ¬ TwoThen head reads text said
+no-head head reads text first second behind is none said two =
+    let same : two.first ∷ two.second ∷ words two.behind ≡ first ∷ second ∷ words behind = sym two.cut ∙ is in
+    let one : two.first ≡ first = ap first_word same in
+    let other : two.second ≡ second = ap (λ (w : List Word). first_word (later w)) same in
+    let no : Some two.table ≡ None = sym two.is ∙ ap (λ (w : Word). head w two.second) one ∙ ap (head first) other ∙ none in
+    absurd cc
+
+-- what was read of the text behind two words is what they say
+pub two-said : (head : Word → Word → Option ℕ) (reads : ℕ → Word → Word → List ℕ → SaidTree → Type 0) (text first second behind : List ℕ) (table : ℕ) (said : Option Said)
+    → words text ≡ first ∷ second ∷ words behind → head first second ≡ Some table → IsReadAs (reads table first second behind) said → IsReadAs (TwoThen head reads text) said
+two-said head reads text first second behind table (Some said) is found says = record {
+  first = first;
+  second = second;
+  behind = behind;
+  table = table;
+  cut = is;
+  is = found;
+  says = says;
+}
+two-said head reads text first second behind table None is found none = λ said two. none said (two-at head reads text first second behind table said is found two)
+
+-- the same of an answer that may be want of memory
+pub two-answered : {F : Type 0} (head : Word → Word → Option ℕ) (reads : ℕ → Word → Word → List ℕ → SaidTree → Type 0) (text first second behind : List ℕ) (table : ℕ)
+    (answer : Result (Option Said) F) → words text ≡ first ∷ second ∷ words behind → head first second ≡ Some table
+    → IfOk answer (IsReadAs (reads table first second behind)) → IfOk answer (IsReadAs (TwoThen head reads text))
+two-answered head reads text first second behind table (Ok said) is found says = two-said head reads text first second behind table said is found says
+two-answered head reads text first second behind table (Err fault) is found says = tt

@@ -1,5 +1,5 @@
 -- Each text gives an outcome.
-use Rattle.std.proofs.Common.{◌≡◌, ◌≢◌, ◌≤◌, ◌<◌, arith, ℕ, zero, suc, ◌+◌, List, [], ◌∷◌, ◌++◌, ◌⊎◌, inl, inr, length, Bool, true, false, Option, None, Some, Ok, Err, refl, sym, ap, ◌∙◌, subst}
+use Rattle.std.proofs.Common.{◌≡◌, ◌≢◌, ◌≤◌, ◌<◌, arith, ℕ, zero, suc, ◌+◌, List, [], ◌∷◌, ◌++◌, ◌⊎◌, inl, inr, length, codes, Bool, true, false, Option, None, Some, Ok, Err, refl, sym, ap, ◌∙◌, subst}
 use Rattle.std.proofs.lemmas.Bool.{leb-false, leb-true}
 use Rattle.std.proofs.lemmas.List.{append-nil, append_assoc, length-append}
 use Rattle.std.proofs.lemmas.List.Elements.{All-append, All-cons, All-from_recursion, All-nil, recursion_from_All}
@@ -16,7 +16,7 @@ use Rattle.smc_lines.specs.Lines.{lines, IsShort, IsWithin}
 use Rattle.smc_lines.specs.Words.{words}
 use Rattle.smc_lines.specs.declared.fault.LinesFault.TheVariants as limit
 use Rattle.smc_lines.specs.declared.limits.TheConstants.{MAX_LINE, MAX_LINES, SPACE}
-use Rattle.smc_query.specs.Trees.{Word, QueryTree, a_query, a_cond, an_edit, query_text}
+use Rattle.smc_query.specs.Trees.{Word, CondTree, ExprTree, QueryTree, a_query, a_cond, an_edit, cond_text, edit_text, query_text}
 use Rattle.smc_tbl.specs.Alone.{SpellsAlone}
 use Rattle.smc_tbl.specs.TableText.{Gives, GivesOne as GivesOneRow}
 use Rattle.smc_tbl.specs.declared.fault.TblFault.{TblFault}
@@ -27,7 +27,7 @@ use Rattle.smc_types.specs.declared.schema.Schema.{Schema}
 use Rattle.smc_script.specs.Faults.{LineGives, passed_over, no_text, no_command, command, said_fault, taken}
 use Rattle.smc_script.specs.Laws.{GivesSome, HasRefused, SpellsSome}
 use Rattle.smc_script.specs.Names.{Given}
-use Rattle.smc_script.specs.Says.{LineSays, VerbSays, SaidTree, QuerySays, SaysAdd, SaysQuery, SaysSet, SaysValue, SpellsRowOf, add, get, remove, set, query, compact, stat, drop_said, is_set, kind_named, load_said, name_said, room_said, table_added, table_said, verb_of}
+use Rattle.smc_script.specs.Says.{LineSays, VerbSays, SaidTree, ColumnSays, CondSays, EditSays, QuerySays, RowSays, SaysQuery, SaysSet, SaysValue, SpellsRowOf, TwoThen, add, get, remove, set, delete, update, query, compact, stat, column_before, drop_said, is_set, kind_named, load_said, name_said, room_said, table_added, table_before, table_said, verb_of}
 use Rattle.smc_script.specs.Scripts.{IsPastLimit, LinesGive}
 use Rattle.smc_script.specs.States.{ReadState, script_of, start}
 use Rattle.smc_script.specs.Trees.{ScriptTree}
@@ -37,8 +37,8 @@ use Rattle.smc_script.specs.declared.fault.ScriptKind.TheVariants.{Grammar, TooL
 use Rattle.smc_script.specs.Tables.{schema_of}
 use Rattle.smc_script.specs.declared.verb.Verb.{Verb}
 use Rattle.smc_script.specs.declared.verb.Verb.TheVariants as verb
-use Rattle.smc_script.proofs.RowLaws.{no-cut, no-head, no-row, no-table, no-value, no-words, value-read}
-use Rattle.smc_script.proofs.SaysLaws.{alone-nothing, behind-says, later, no-verb, some-one, two-alone}
+use Rattle.smc_script.proofs.RowLaws.{no-set, no-value, no-words, value-read}
+use Rattle.smc_script.proofs.SaysLaws.{alone-nothing, behind-says, later, no-cut, no-head, no-verb, some-one, two-alone, two-at}
 
 -- it holds, or it doesn't
 abbrev Known : Type 0 → Type 0
@@ -165,35 +165,83 @@ two-known text (inr (first, is)) = inr (λ two. no-second two)
     no-second : ¬ HasTwo text
     no-second (a, b, c, same) = let no : b ∷ words c ≡ [] = ap later (sym same ∙ is) in absurd cc
 
--- what is added, where the row is known
-added-known : (catalog : Catalog) (text first second behind : List ℕ) (number : ℕ) → words text ≡ first ∷ second ∷ words behind → table_added catalog first second ≡ Some number
-    → Known (IsRow catalog number behind) → SaidOrNone (SaysAdd catalog text)
-added-known catalog text first second behind number is head (inl (row, spells)) =
-    inl (
-      add number second row,
-      record {
-        table = first;
-        name = second;
-        row_text = behind;
-        number = number;
-        row = row;
-        cut = is;
-        head = head;
-        spells = spells;
-        says = refl;
-      },
-    )
-added-known catalog text first second behind number is head (inr none) = inr (no-row catalog text first second behind number is (sym head) (λ row spells. none (row, spells)))
+-- what stands behind two words says something or nothing, where it does behind each two words
+two-by : (head : Word → Word → Option ℕ) (reads : ℕ → Word → Word → List ℕ → SaidTree → Type 0) (text first second behind : List ℕ) (found : Option ℕ)
+    → ((table : ℕ) (first second : Word) (behind : List ℕ) → SaidOrNone (reads table first second behind)) → words text ≡ first ∷ second ∷ words behind → head first second ≡ found
+    → SaidOrNone (TwoThen head reads text)
+two-by head reads text first second behind None each is found = inr (no-head head reads text first second behind is found)
+two-by head reads text first second behind (Some table) each is found =
+    elim (each table first second behind) [
+      | inl (said, says) ↦ inl (
+        said,
+        record {
+          first = first;
+          second = second;
+          behind = behind;
+          table = table;
+          cut = is;
+          is = found;
+          says = says;
+        },
+      )
+      | inr none ↦ inr (λ said two. none said (two-at head reads text first second behind table said is found two))
+    ]
 
-table-known : Readings → (catalog : Catalog) (text first second behind : List ℕ) (found : Option ℕ) → words text ≡ first ∷ second ∷ words behind → table_added catalog first second ≡ found
-    → SaidOrNone (SaysAdd catalog text)
-table-known laws catalog text first second behind None is head = inr (no-table catalog text first second behind is (sym head))
-table-known laws catalog text first second behind (Some number) is head =
-    added-known catalog text first second behind number is head (row-known laws catalog number behind (schema_of catalog number) refl)
+two-said-known : (head : Word → Word → Option ℕ) (reads : ℕ → Word → Word → List ℕ → SaidTree → Type 0) (text : List ℕ)
+    → ((table : ℕ) (first second : Word) (behind : List ℕ) → SaidOrNone (reads table first second behind)) → Known (HasTwo text) → SaidOrNone (TwoThen head reads text)
+two-said-known head reads text each (inl (first, second, behind, is)) = two-by head reads text first second behind (head first second) each is refl
+two-said-known head reads text each (inr none) = inr (no-cut head reads text (λ first second behind is. none (first, second, behind, is)))
 
-add-known : Readings → (catalog : Catalog) (text : List ℕ) → Known (HasTwo text) → SaidOrNone (SaysAdd catalog text)
-add-known laws catalog text (inl (first, second, behind, is)) = table-known laws catalog text first second behind (table_added catalog first second) is refl
-add-known laws catalog text (inr none) = inr (no-cut catalog text (λ first second behind is. none (first, second, behind, is)))
+-- a text is a row of the table, or not
+added-known : (catalog : Catalog) (table : ℕ) (name : Word) (text : List ℕ) → Known (IsRow catalog table text) → SaidOrNone (RowSays catalog table name text)
+added-known catalog table name text (inl (row, spells)) = inl (add table name row, (row, refl, spells))
+added-known catalog table name text (inr none) = inr (λ said says. none (says.0, says.2))
+
+-- a text is a condition, or not, by what it is
+cond-by : IsOneThing → (text : List ℕ) (thing : Thing) → IsThing cond_text text thing → Known ((cond : CondTree) × ReadsText cond_text text (a_cond cond))
+cond-by one text (read (a_cond cond)) is = inl (cond, is)
+cond-by one text (read (a_query tree)) is = inr (λ c. let no = one cond_text text (read (a_query tree)) (read (a_cond (c.0))) is (c.1) in absurd cc)
+cond-by one text (read (an_edit value filter)) is = inr (λ c. let no = one cond_text text (read (an_edit value filter)) (read (a_cond (c.0))) is (c.1) in absurd cc)
+cond-by one text (wrong at) is = inr (λ c. let no = one cond_text text (wrong at) (read (a_cond (c.0))) is (c.1) in absurd cc)
+cond-by one text (deep at) is = inr (λ c. let no = one cond_text text (deep at) (read (a_cond (c.0))) is (c.1) in absurd cc)
+
+cond-known : (table : ℕ) (text : List ℕ) (short : Bool) → nat_le (length text) MAX_TEXT ≡ short → Known ((cond : CondTree) × ReadsText cond_text text (a_cond cond))
+    → SaidOrNone (CondSays table text)
+cond-known table text true small (inl (cond, reads)) = inl (delete table cond, (cond, refl, (leb-true (length text) MAX_TEXT small, reads)))
+cond-known table text true small (inr none) = inr (λ said says. none (says.0, says.2.1))
+cond-known table text false large any = inr (λ said says. let long = leb-false (length text) MAX_TEXT large in let short' = says.2.0 in absurd (omega arith))
+
+-- a text is a value with a condition, or not, by what it is
+edit-by : IsOneThing → (text : List ℕ) (thing : Thing) → IsThing edit_text text thing
+    → Known ((value : ExprTree) × (filter : Option CondTree) × ReadsText edit_text text (an_edit value filter))
+edit-by one text (read (an_edit value filter)) is = inl (value, filter, is)
+edit-by one text (read (a_query tree)) is = inr (λ e. let no = one edit_text text (read (a_query tree)) (read (an_edit (e.0) (e.1))) is (e.2) in absurd cc)
+edit-by one text (read (a_cond cond)) is = inr (λ e. let no = one edit_text text (read (a_cond cond)) (read (an_edit (e.0) (e.1))) is (e.2) in absurd cc)
+edit-by one text (wrong at) is = inr (λ e. let no = one edit_text text (wrong at) (read (an_edit (e.0) (e.1))) is (e.2) in absurd cc)
+edit-by one text (deep at) is = inr (λ e. let no = one edit_text text (deep at) (read (an_edit (e.0) (e.1))) is (e.2) in absurd cc)
+
+edit-known : (table : ℕ) (column : Word) (text : List ℕ) (short : Bool) → nat_le (length text) MAX_TEXT ≡ short
+    → Known ((value : ExprTree) × (filter : Option CondTree) × ReadsText edit_text text (an_edit value filter)) → SaidOrNone (EditSays table column text)
+edit-known table column text true small (inl (value, filter, reads)) =
+    inl (update table column value filter, (value, filter, refl, (leb-true (length text) MAX_TEXT small, reads)))
+edit-known table column text true small (inr none) = inr (λ said says. none (says.0, says.1, says.3.1))
+edit-known table column text false large any = inr (λ said says. let long = leb-false (length text) MAX_TEXT large in let short' = says.3.0 in absurd (omega arith))
+
+-- whether a text is a row, a condition, a value, or a column with its value
+each-row : Readings → (catalog : Catalog) (table : ℕ) (name : Word) (text : List ℕ) → SaidOrNone (RowSays catalog table name text)
+each-row laws catalog table name text = added-known catalog table name text (row-known laws catalog table text (schema_of catalog table) refl)
+
+each-cond : Readings → (table : ℕ) (text : List ℕ) → SaidOrNone (CondSays table text)
+each-cond laws table text =
+    cond-known table text (nat_le (length text) MAX_TEXT) refl (let what = laws.some cond_text text in cond-by laws.one text (what.0) (what.1))
+
+each-edit : Readings → (table : ℕ) (column : Word) (text : List ℕ) → SaidOrNone (EditSays table column text)
+each-edit laws table column text =
+    edit-known table column text (nat_le (length text) MAX_TEXT) refl (let what = laws.some edit_text text in edit-by laws.one text (what.0) (what.1))
+
+each-column : Readings → (table : ℕ) (text : List ℕ) → SaidOrNone (ColumnSays table text)
+each-column laws table text =
+    two-said-known (column_before table) (λ same column _. EditSays same column) text (λ same column sign. each-edit laws same column) (two-known text (line-cut text))
 
 -- a text is a value of the column, or not
 value-known : Readings → (kind : Option FieldType) (text : List ℕ) → ((value : Option Value) × SaysValue kind text value) ⊎ ((value : Option Value) → ¬ SaysValue kind text value)
@@ -224,7 +272,7 @@ set-by laws catalog names text name column value_text true is head =
       )
       | inr none ↦ inr (no-value catalog names text name column value_text is none)
     ]
-set-by laws catalog names text name column value_text false is head = inr (no-head catalog names text name column value_text is head)
+set-by laws catalog names text name column value_text false is head = inr (no-set catalog names text name column value_text is head)
 
 set-known : Readings → (catalog : Catalog) (names : List Given) (text : List ℕ) (list : List Word) → words text ≡ list → SaidOrNone (SaysSet catalog names text)
 set-known laws catalog names text (name ∷ column ∷ value_text ∷ []) is = set-by laws catalog names text name column value_text (is_set name column) is refl
@@ -245,10 +293,15 @@ query-known text (inr none) = inr (λ said says. none (says.0, says.2))
 verb-known : Readings → (catalog : Catalog) (names : List Given) (command : Verb) (text : List ℕ) → SaidOrNone (VerbSays catalog names command text)
 verb-known laws catalog names verb.Room text = found-known (room_said catalog (words text))
 verb-known laws catalog names verb.Load text = found-known (load_said catalog (words text))
-verb-known laws catalog names verb.Add text = add-known laws catalog text (two-known text (line-cut text))
+verb-known laws catalog names verb.Add text =
+    two-said-known (table_added catalog) (λ table _ name. RowSays catalog table name) text (λ table word name. each-row laws catalog table name) (two-known text (line-cut text))
 verb-known laws catalog names verb.Get text = found-known (name_said get (words text))
 verb-known laws catalog names verb.Set text = set-known laws catalog names text (words text) refl
 verb-known laws catalog names verb.Remove text = found-known (name_said remove (words text))
+verb-known laws catalog names verb.Delete text =
+    two-said-known (table_before catalog (codes "where")) (λ table _ _. CondSays table) text (λ table word other. each-cond laws table) (two-known text (line-cut text))
+verb-known laws catalog names verb.Update text =
+    two-said-known (table_before catalog (codes "set")) (λ table _ _. ColumnSays table) text (λ table word other. each-column laws table) (two-known text (line-cut text))
 verb-known laws catalog names verb.Query text =
     query-known text (short-known text (nat_le (length text) MAX_TEXT) refl (let what = laws.some query_text text in query-by laws.one text (what.0) (what.1)))
 verb-known laws catalog names verb.Compact text = found-known (table_said compact catalog (words text))

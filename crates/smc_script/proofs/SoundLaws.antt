@@ -1,5 +1,5 @@
 -- A script that was read is sound.
-use Rattle.std.proofs.Common.{◌≡◌, ◌≤◌, arith, ℕ, ◌+◌, List, [], ◌∷◌, inl, inr, map, length, Option, None, Some, Ok, Err, refl, sym, ap, ◌∙◌, subst}
+use Rattle.std.proofs.Common.{◌≡◌, ◌≤◌, arith, ℕ, ◌+◌, List, [], ◌∷◌, inl, inr, map, Option, None, Some, Ok, Err, refl, sym, ap, ◌∙◌, subst}
 use Rattle.std.proofs.lemmas.Simd.{map-map}
 use Rattle.std.specs.declared.result.Result.{Result}
 use Rattle.std.specs.List.{AllByRecursion}
@@ -13,7 +13,7 @@ use Rattle.smc_shape.proofs.AskedLaws.{fault_of-none, no-fault_of}
 use Rattle.smc_shape.specs.declared.shape.TheConstants.{MAX_PASSES}
 use Rattle.smc_types.specs.declared.catalog.Catalog.{Catalog}
 use Rattle.smc_script.specs.Faults.{LineGives, passed_over, no_text, no_command, command, has_room, is_doing, is_too_large, knows, room_fault, name_fault, said_fault, taken}
-use Rattle.smc_script.specs.Says.{SaidTree, room, load, add, get, set, remove, query, compact, stat, drop_fold}
+use Rattle.smc_script.specs.Says.{SaidTree, room, load, add, get, set, remove, delete, update, query, compact, stat, drop_fold}
 use Rattle.smc_script.specs.Scripts.{Answers, LinesGive, Outcome}
 use Rattle.smc_script.specs.Sound.{EachCommand, IsFit, IsPlaced, IsSound, Opens, coll_of_room}
 use Rattle.smc_script.specs.States.{ReadState, after, colls_of, placed, script_of, start, with_room}
@@ -80,6 +80,8 @@ after-opens catalog state line (get name) opens is = opens
 after-opens catalog state line (set name column (Some value)) opens is = opens
 after-opens catalog state line (set name column None) opens is = opens
 after-opens catalog state line (remove name) opens is = opens
+after-opens catalog state line (delete table cond) opens is = opens
+after-opens catalog state line (update table column value filter) opens is = opens
 after-opens catalog state line (query tree) opens is = opens
 after-opens catalog state line (compact table) opens is = opens
 after-opens catalog state line (stat table) opens is = opens

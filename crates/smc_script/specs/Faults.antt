@@ -9,9 +9,9 @@ use Rattle.smc_shape.specs.Faults.{fault_of}
 use Rattle.smc_shape.specs.declared.shape.TheConstants.{MAX_PASSES}
 use Rattle.smc_types.specs.declared.catalog.Catalog.{Catalog}
 use Rattle.smc_script.specs.Names.{table_given}
-use Rattle.smc_script.specs.Says.{SaidTree, LineSays, room, load, add, get, remove, set, query, compact, stat, drop_fold, kind_named}
+use Rattle.smc_script.specs.Says.{SaidTree, LineSays, room, load, add, get, remove, set, delete, update, query, compact, stat, drop_fold, kind_named}
 use Rattle.smc_script.specs.States.{ReadState, after, colls_of, room_at, with_room}
-use Rattle.smc_script.specs.Tables.{may_write, table_named}
+use Rattle.smc_script.specs.Tables.{column_kind, may_write, table_named}
 use Rattle.smc_script.specs.declared.fault.ScriptKind.{ScriptKind}
 use Rattle.smc_script.specs.declared.fault.ScriptKind.TheVariants.{Grammar, Room, Name}
 use Rattle.smc_script.specs.declared.state.Asked.{Asked}
@@ -77,6 +77,8 @@ knows catalog folds state (add table name row) = has_room state.rooms table && n
 knows catalog folds state (get name) = is_given state name
 knows catalog folds state (set name column value) = is_given state name && may_write (kind_named catalog state.names name column)
 knows catalog folds state (remove name) = is_given state name
+knows catalog folds state (delete table cond) = has_room state.rooms table
+knows catalog folds state (update table column value filter) = has_room state.rooms table && may_write (column_kind catalog table column)
 knows catalog folds state (query tree) = is_placed state.rooms (table_named catalog tree.table) && knows_folds folds state.dropped tree.items
 knows catalog folds state (compact table) = has_room state.rooms table
 knows catalog folds state (stat table) = has_room state.rooms table

@@ -1,5 +1,5 @@
 -- What a line says, by the names that were given before it and by nothing else that went before.
-use Rattle.std.specs.Prelude.{◌≡◌, ◌≢◌, ℕ, ◌*◌, ◌≤◌, Bool, true, false, ◌&&◌, nat_lt, nat_le, if◌then◌else◌, List, [], ◌∷◌, length, codes, Option, Some, None}
+use Rattle.std.specs.Prelude.{◌≡◌, ℕ, ◌*◌, ◌≤◌, Bool, true, false, ◌&&◌, nat_lt, nat_le, if◌then◌else◌, List, [], ◌∷◌, length, codes, Option, Some, None}
 use Rattle.std.specs.Int.{div_ceil}
 use Rattle.std.specs.List.{list_all}
 use Rattle.std.specs.Option.{option_map}
@@ -10,7 +10,9 @@ use Rattle.smc_lang.specs.declared.fault.ParseFault.{ParseFault}
 use Rattle.smc_lang.specs.declared.fault.ParseFault.TheVariants.{NoMemory}
 use Rattle.smc_lines.specs.Numbers.{is_number, decimal_value}
 use Rattle.smc_lines.specs.Words.{words}
-use Rattle.smc_query.specs.Trees.{Word, QueryTree, a_query, query_text, query_tree}
+use Rattle.smc_query.specs.Trees.{Word, CondTree, ExprTree, QueryTree, a_cond, a_query, an_edit, cond_text, cond_tree, edit_text, expr_tree, filter_tree, query_text, query_tree}
+use Rattle.smc_query.specs.declared.cond.Cond.{Cond}
+use Rattle.smc_query.specs.declared.expr.Expr.{Expr}
 use Rattle.smc_query.specs.declared.query.Query.{Query}
 use Rattle.smc_tbl.specs.Alone.{SpellsAlone}
 use Rattle.smc_tbl.specs.TableText.{SpellsRow}
@@ -18,7 +20,6 @@ use Rattle.smc_tbl.specs.declared.fault.TblFault.{TblFault}
 use Rattle.smc_tbl.specs.declared.fault.TblFault.TheVariants as row_fault
 use Rattle.smc_types.specs.declared.catalog.Catalog.{Catalog}
 use Rattle.smc_types.specs.declared.column.FieldType.{FieldType}
-use Rattle.smc_types.specs.declared.row.Row.{Row}
 use Rattle.smc_types.specs.declared.row.Value.{Value}
 use Rattle.smc_types.specs.declared.schema.Schema.{Schema}
 use Rattle.smc_shape.specs.declared.coll.TheConstants.{BLOCK_SLOTS}
@@ -38,6 +39,8 @@ pub data SaidTree : Type 0 where
   add : (table : ℕ) → (name : Word) → (row : List Value) → SaidTree
   get remove : (name : Word) → SaidTree
   set : (name column : Word) → (value : Option Value) → SaidTree
+  delete : (table : ℕ) → CondTree → SaidTree
+  update : (table : ℕ) → (column : Word) → ExprTree → Option CondTree → SaidTree
   query : QueryTree → SaidTree
   compact stat : (table : ℕ) → SaidTree
   drop_fold : (name : Word) → SaidTree
@@ -50,6 +53,8 @@ said_tree (of.Add table name row) = add table name row
 said_tree (of.Get name) = get name
 said_tree (of.Set name column value) = set name column value
 said_tree (of.Remove name) = remove name
+said_tree (of.Delete table filter) = delete table (cond_tree filter)
+said_tree (of.Update table column value filter) = update table column (expr_tree value) (filter_tree filter)
 said_tree (of.Query query') = query (query_tree query')
 said_tree (of.Compact table) = compact table
 said_tree (of.Stat table) = stat table
@@ -100,6 +105,16 @@ drop_said words = None
 
 -- ---- commands that end in a text
 
+-- Two words and a text behind them: the words name a table, and the text says this of it.
+pub record TwoThen (head : Word → Word → Option ℕ) (reads : ℕ → Word → Word → List ℕ → SaidTree → Type 0) (text : List ℕ) (said : SaidTree) : Type 0 where
+  pub first : Word
+  pub second : Word
+  pub behind : List ℕ
+  pub table : ℕ
+  pub cut : words text ≡ first ∷ second ∷ words behind
+  pub is : head first second ≡ Some table
+  pub says : reads table first second behind said
+
 -- the text is this query
 abbrev pub SaysQuery : List ℕ → QueryTree → Type 0
 SaysQuery text tree = (length text ≤ MAX_TEXT) × ReadsText query_text text (a_query tree)
@@ -112,21 +127,54 @@ QuerySays text said = (tree : QueryTree) × (said ≡ query tree) × SaysQuery t
 abbrev pub SpellsRowOf : Catalog → ℕ → List ℕ → List Value → Type 0
 SpellsRowOf catalog table text row = (schema : Schema) × (schema_of catalog table ≡ Some schema) × SpellsRow schema text row
 
+-- a row of the table is what the text says
+abbrev pub RowSays : Catalog → ℕ → (name : Word) → List ℕ → SaidTree → Type 0
+RowSays catalog table name text said = (row : List Value) × (said ≡ add table name row) × SpellsRowOf catalog table text row
+
 -- the table that a row is added to, where the name is one
 abbrev pub table_added : Catalog → (table name : Word) → Option ℕ
 table_added catalog table name = if is_script_name name then table_named catalog table else None
 
 -- TABLE NAME ROW
-pub record SaysAdd (catalog : Catalog) (text : List ℕ) (said : SaidTree) : Type 0 where
-  pub table : Word
-  pub name : Word
-  pub row_text : List ℕ
-  pub number : ℕ
-  pub row : List Value
-  pub cut : words text ≡ table ∷ name ∷ words row_text
-  pub head : table_added catalog table name ≡ Some number
-  pub spells : SpellsRowOf catalog number row_text row
-  pub says : said ≡ add number name row
+abbrev pub SaysAdd : Catalog → List ℕ → SaidTree → Type 0
+SaysAdd catalog text said = TwoThen (table_added catalog) (λ table _ name. RowSays catalog table name) text said
+
+-- the text is this condition
+abbrev pub SaysCond : List ℕ → CondTree → Type 0
+SaysCond text cond = (length text ≤ MAX_TEXT) × ReadsText cond_text text (a_cond cond)
+
+-- a condition on the table's objects is what the text says
+abbrev pub CondSays : ℕ → List ℕ → SaidTree → Type 0
+CondSays table text said = (cond : CondTree) × (said ≡ delete table cond) × SaysCond text cond
+
+-- the table, where this word stands behind its name
+abbrev pub table_before : Catalog → Word → (table word : Word) → Option ℕ
+table_before catalog expected table word = if bytes_eq word expected then table_named catalog table else None
+
+-- TABLE where COND
+abbrev pub SaysDelete : Catalog → List ℕ → SaidTree → Type 0
+SaysDelete catalog text said = TwoThen (table_before catalog (codes "where")) (λ table _ _. CondSays table) text said
+
+-- the text is this value, and this condition behind it, where there is one
+abbrev pub SaysEdit : List ℕ → ExprTree → Option CondTree → Type 0
+SaysEdit text value filter = (length text ≤ MAX_TEXT) × ReadsText edit_text text (an_edit value filter)
+
+-- a value for the column of the table's objects is what the text says
+abbrev pub EditSays : ℕ → (column : Word) → List ℕ → SaidTree → Type 0
+EditSays table column text said =
+    (value : ExprTree) × (filter : Option CondTree) × (said ≡ update table column value filter) × SaysEdit text value filter
+
+-- the table, where a column and a sign of equality stand behind it
+abbrev pub column_before : ℕ → (column sign : Word) → Option ℕ
+column_before table column sign = if bytes_eq sign (codes "=") && nat_lt 0 (length column) then Some table else None
+
+-- COLUMN = EXPR [where COND]
+abbrev pub ColumnSays : ℕ → List ℕ → SaidTree → Type 0
+ColumnSays table text said = TwoThen (column_before table) (λ same column _. EditSays same column) text said
+
+-- TABLE set COLUMN = EXPR [where COND]
+abbrev pub SaysUpdate : Catalog → List ℕ → SaidTree → Type 0
+SaysUpdate catalog text said = TwoThen (table_before catalog (codes "set")) (λ table _ _. ColumnSays table) text said
 
 -- the text is this value of a column, where there is one; else no value is read from it
 abbrev pub SaysValue : Option FieldType → List ℕ → Option Value → Type 0
@@ -164,6 +212,8 @@ verb_of word =
     else if bytes_eq word (codes "get") then Some verb.Get
     else if bytes_eq word (codes "set") then Some verb.Set
     else if bytes_eq word (codes "remove") then Some verb.Remove
+    else if bytes_eq word (codes "delete") then Some verb.Delete
+    else if bytes_eq word (codes "update") then Some verb.Update
     else if bytes_eq word (codes "query") then Some verb.Query
     else if bytes_eq word (codes "compact") then Some verb.Compact
     else if bytes_eq word (codes "stat") then Some verb.Stat
@@ -178,6 +228,8 @@ VerbSays catalog names verb.Add text said = SaysAdd catalog text said
 VerbSays catalog names verb.Get text said = name_said get (words text) ≡ Some said
 VerbSays catalog names verb.Set text said = SaysSet catalog names text said
 VerbSays catalog names verb.Remove text said = name_said remove (words text) ≡ Some said
+VerbSays catalog names verb.Delete text said = SaysDelete catalog text said
+VerbSays catalog names verb.Update text said = SaysUpdate catalog text said
 VerbSays catalog names verb.Query text said = QuerySays text said
 VerbSays catalog names verb.Compact text said = table_said compact catalog (words text) ≡ Some said
 VerbSays catalog names verb.Stat text said = table_said stat catalog (words text) ≡ Some said
@@ -211,6 +263,16 @@ IsSaid catalog names line said = IsReadAs (LineSays catalog names line) said
 abbrev pub IsQueryRead : List ℕ → Option Query → Type 0
 IsQueryRead text (Some read) = SaysQuery text (query_tree read)
 IsQueryRead text None = (tree : QueryTree) → ¬ SaysQuery text tree
+
+-- what an answer says of a text: it is this condition, or none
+abbrev pub IsCondRead : List ℕ → Option Cond → Type 0
+IsCondRead text (Some read) = SaysCond text (cond_tree read)
+IsCondRead text None = (cond : CondTree) → ¬ SaysCond text cond
+
+-- what an answer says of a text: it is this value with its condition, or none
+abbrev pub IsEditRead : List ℕ → Option (Expr × Option Cond) → Type 0
+IsEditRead text (Some read) = SaysEdit text (expr_tree read.0) (filter_tree read.1)
+IsEditRead text None = (value : ExprTree) (filter : Option CondTree) → ¬ SaysEdit text value filter
 
 -- what an answer says of a text: it is this row of the table, or none
 abbrev pub IsRowRead : Catalog → ℕ → List ℕ → Option (List Value) → Type 0

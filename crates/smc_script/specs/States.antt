@@ -6,7 +6,7 @@ use Rattle.smc_query.specs.Trees.{Word, QueryTree}
 use Rattle.smc_shape.specs.declared.coll.CollShape.{CollShape}
 use Rattle.smc_types.specs.declared.catalog.Catalog.{Catalog}
 use Rattle.smc_script.specs.Names.{Given, table_given, with_name}
-use Rattle.smc_script.specs.Says.{SaidTree, room, load, add, get, remove, set, query, compact, stat, drop_fold}
+use Rattle.smc_script.specs.Says.{SaidTree, room, load, add, get, remove, set, delete, update, query, compact, stat, drop_fold}
 use Rattle.smc_script.specs.Tables.{table_named, table_width}
 use Rattle.smc_script.specs.Trees as trees
 use Rattle.smc_script.specs.Trees.{CommandTree, PartTree, ScriptTree, part_tree}
@@ -77,6 +77,8 @@ command_said catalog state (get name) = Some (trees.get (place_named state name)
 command_said catalog state (set name column (Some value)) = Some (trees.set (place_named state name) name column value)
 command_said catalog state (set name column None) = None
 command_said catalog state (remove name) = Some (trees.remove (place_named state name) name)
+command_said catalog state (delete table cond) = Some (trees.delete (place_of state.rooms table) cond)
+command_said catalog state (update table column value filter) = Some (trees.update (place_of state.rooms table) column value filter)
 command_said catalog state (query tree) = Some (trees.query (place_of state.rooms (query_table catalog tree)) tree)
 command_said catalog state (compact table) = Some (trees.compact (place_of state.rooms table))
 command_said catalog state (stat table) = Some (trees.stat (place_of state.rooms table))

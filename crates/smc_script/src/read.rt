@@ -217,6 +217,35 @@ mod tests {
                 b"room region 64\ndrop fold median\nquery from region show fold median(regionkey)\n",
                 Some((3, ScriptKind::Name)),
             ),
+            (
+                b"room region 64\ndelete region where  regionkey < 2 \ndelete region where region.x = 'a'\n",
+                None,
+            ),
+            (
+                b"delete region where regionkey\n",
+                Some((1, ScriptKind::Grammar)),
+            ),
+            (
+                b"delete region  where regionkey < 2\n",
+                Some((1, ScriptKind::Grammar)),
+            ),
+            (
+                b"delete region where regionkey < 2\n",
+                Some((1, ScriptKind::Name)),
+            ),
+            (
+                b"room region 64\nupdate region set regionkey = regionkey + 1\nupdate region set regionkey = 2 where regionkey < 2\n",
+                None,
+            ),
+            (
+                b"update region set regionkey= 1\n",
+                Some((1, ScriptKind::Grammar)),
+            ),
+            (b"update region set  = 1\n", Some((1, ScriptKind::Grammar))),
+            (
+                b"room region 64\nupdate region set name = 'a'\n",
+                Some((2, ScriptKind::Name)),
+            ),
             (b"frob\n", Some((1, ScriptKind::Grammar))),
             (b"room region  64\n", Some((1, ScriptKind::Grammar))),
             (b"\xff\n", Some((1, ScriptKind::Grammar))),

@@ -229,6 +229,14 @@ impl Reader {
         self.is_given(name) & may_write(kind)
     }
 
+    // Whether the table has a room, and a column of this name that may be written.
+    fn may_update(&self, catalog: &Catalog, table: u32, column: &Name) -> bool
+        ensures { result ≡ (fault.has_room self.now.rooms.items table && spec.may_write (spec.column_kind catalog.now table column.now)) }
+    {
+        let kind = kind_of(catalog, Some(table), column.as_str());
+        has_room(&self.rooms, table) & may_write(kind)
+    }
+
     // Whether the query is over a table with a room, and its folds are left.
     fn is_known(&self, catalog: &Catalog, folds: &FoldNames, query: &Query) -> bool
         ensures { result ≡ (is_placed self.now.rooms.items (table_named catalog.now query.now.table) && knows_folds folds.now self.now.dropped.items (query_tree query.now).items) }
@@ -258,6 +266,10 @@ impl Reader {
                 Ok(name_fault(self.may_set(catalog, name, column)))
             }
             Said::Remove { name } => Ok(name_fault(self.is_given(name))),
+            Said::Delete { table, .. } => Ok(name_fault(has_room(&self.rooms, *table))),
+            Said::Update { table, column, .. } => {
+                Ok(name_fault(self.may_update(catalog, *table, column)))
+            }
             Said::Query { query } => Ok(name_fault(self.is_known(catalog, folds, query))),
             Said::Compact { table } => Ok(name_fault(has_room(&self.rooms, *table))),
             Said::Stat { table } => Ok(name_fault(has_room(&self.rooms, *table))),
@@ -392,6 +404,21 @@ impl Reader {
             Said::Remove { name } => Command::Remove {
                 place: self.place_named(&name),
                 name,
+            },
+            Said::Delete { table, filter } => Command::Delete {
+                place: self.place(table),
+                filter,
+            },
+            Said::Update {
+                table,
+                column,
+                value,
+                filter,
+            } => Command::Update {
+                place: self.place(table),
+                column,
+                value,
+                filter,
             },
             Said::Query { query } => Command::Query {
                 place: self.query_place(catalog, &query),

@@ -1,15 +1,13 @@
 //! The rows and values in the lines of a script, read by the columns of their tables.
-ghost use Rattle.std.specs.Prelude.{◌≡◌, ◌≢◌, ◌∷◌, [], ℕ, List, IfOk, IfSome, IfNone};
-ghost use Rattle.smc_lines.specs.Words.{words};
-ghost use Rattle.smc_query.specs.Trees.{Word};
+ghost use Rattle.std.specs.Prelude.{◌≡◌, IfOk};
 ghost use Rattle.smc_script.specs.Says as says;
-ghost use Rattle.smc_script.specs.Says.{IsReadAs, IsRowRead, IsValueRead, SaysAdd, SaysSet, is_row_memory};
+ghost use Rattle.smc_script.specs.Says.{IsReadAs, IsRowRead, IsValueRead, RowSays, SaysAdd, SaysSet, is_row_memory};
 
+use crate::cut::{cut_three, cut_two};
 use crate::name::{ScriptName, is_script_name};
 use crate::names::Names;
 use crate::said::Said;
 use crate::table::{kind_of, schema_of, table_named};
-use smc_lines::{Words, split_word};
 use smc_tbl::laws::one_reading;
 use smc_tbl::{TblFault, read_field, read_row};
 use smc_tokens::Name;
@@ -51,33 +49,6 @@ fn read_row_of(
     Ok(None)
 }
 
-// Two words, and the text behind them.
-#[derive(Clone, Copy)]
-struct Cut<'a> {
-    first: &'a str,
-    second: &'a str,
-    text: &'a str,
-}
-
-fn cut_two(text: &str) -> Option<Cut<'_>>
-    ensures some { IfSome result (λ cut. words text.now ≡ cut.first.now ∷ cut.second.now ∷ words cut.text.now) }
-    ensures none { IfNone result ((first second behind : List ℕ) → words text.now ≢ first ∷ second ∷ words behind) }
-{
-    let (first, behind) = split_word(text);
-    let Some(text) = behind else {
-        return None;
-    };
-    let (second, behind) = split_word(text);
-    let Some(text) = behind else {
-        return None;
-    };
-    Some(Cut {
-        first,
-        second,
-        text,
-    })
-}
-
 // The table that a row is added to, where the name is one.
 fn table_added(catalog: &Catalog, table: &str, name: &str) -> Option<u32>
     ensures { result ≡ says.table_added catalog.now table.now name.now }
@@ -86,6 +57,25 @@ fn table_added(catalog: &Catalog, table: &str, name: &str) -> Option<u32>
         return None;
     }
     table_named(catalog, table)
+}
+
+// What a text says that is to be a row of the table.
+fn say_row(
+    alloc: Global,
+    catalog: &Catalog,
+    table: u32,
+    name: &str,
+    text: &str,
+) -> Result<Option<Said>, NoMemory>
+    ensures { IfOk result (IsReadAs (RowSays catalog.now table name.now text.now)) }
+{
+    let row = match read_row_of(alloc, catalog, table, text) {
+        Ok(Some(row)) => row,
+        Ok(None) => return Ok(None),
+        Err(fault) => return Err(fault),
+    };
+    let name = ScriptName::of(alloc, name)?;
+    Ok(Some(Said::Add { table, name, row }))
 }
 
 /// What a text behind the word `add` says.
@@ -98,13 +88,7 @@ pub fn say_add(alloc: Global, catalog: &Catalog, text: &str) -> Result<Option<Sa
     let Some(table) = table_added(catalog, cut.first, cut.second) else {
         return Ok(None);
     };
-    let row = match read_row_of(alloc, catalog, table, cut.text) {
-        Ok(Some(row)) => row,
-        Ok(None) => return Ok(None),
-        Err(fault) => return Err(fault),
-    };
-    let name = ScriptName::of(alloc, cut.second)?;
-    Ok(Some(Said::Add { table, name, row }))
+    say_row(alloc, catalog, table, cut.second, cut.text)
 }
 
 // The value that a text is in a column of this type; where there is no column, none is read.
@@ -123,27 +107,6 @@ fn read_value(
         Ok(None) => Ok(None),
         Err(fault) => Err(fault),
     }
-}
-
-// Three words, and no more.
-fn cut_three(text: &str) -> Option<Cut<'_>>
-    ensures some { IfSome result (λ cut. words text.now ≡ cut.first.now ∷ cut.second.now ∷ cut.text.now ∷ []) }
-    ensures none { IfNone result ((first second third : Word) → words text.now ≢ first ∷ second ∷ third ∷ []) }
-{
-    let mut words = Words::of(text);
-    let (Some(first), Some(second), Some(text), None) = (
-        words.next_word(),
-        words.next_word(),
-        words.next_word(),
-        words.next_word(),
-    ) else {
-        return None;
-    };
-    Some(Cut {
-        first,
-        second,
-        text,
-    })
 }
 
 fn is_set(name: &str, column: &str) -> bool

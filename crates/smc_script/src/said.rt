@@ -12,12 +12,12 @@ ghost use Rattle.smc_script.specs.Says.{IsSaid, IsSaidBy, SaidTree, compact, dro
 use crate::limits::{MAX_DIGITS, MAX_FILE, MAX_SLOTS};
 use crate::name::{FileName, FoldName, ScriptName, is_script_name};
 use crate::names::Names;
-use crate::query::say_query;
+use crate::query::{say_delete, say_query, say_update};
 use crate::row::{say_add, say_set};
 use crate::table::table_named;
 use crate::verb::{Verb, verb_of};
 use smc_lines::{Words, read_number, split_word};
-use smc_query::Query;
+use smc_query::{Cond, Expr, Query};
 use smc_shape::BLOCK_SLOTS;
 use smc_tokens::Name;
 use smc_types::{Catalog, Row, Value};
@@ -52,6 +52,16 @@ pub enum Said {
     },
     Remove {
         name: ScriptName,
+    },
+    Delete {
+        table: u32,
+        filter: Cond,
+    },
+    Update {
+        table: u32,
+        column: Name,
+        value: Expr,
+        filter: Option<Cond>,
     },
     Query {
         query: Query,
@@ -255,6 +265,8 @@ fn read_behind(
         Verb::Get => say_get(alloc, text),
         Verb::Set => say_set(alloc, catalog, names, text),
         Verb::Remove => say_remove(alloc, text),
+        Verb::Delete => say_delete(alloc, catalog, text),
+        Verb::Update => say_update(alloc, catalog, text),
         Verb::Query => say_query(alloc, text),
         Verb::Compact => Ok(say_compact(catalog, text)),
         Verb::Stat => Ok(say_stat(catalog, text)),

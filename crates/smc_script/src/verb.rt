@@ -11,6 +11,8 @@ pub enum Verb {
     Get,
     Set,
     Remove,
+    Delete,
+    Update,
     Query,
     Compact,
     Stat,
@@ -38,6 +40,12 @@ pub fn verb_of(word: &str) -> Option<Verb>
     }
     if word == "remove" {
         return Some(Verb::Remove);
+    }
+    if word == "delete" {
+        return Some(Verb::Delete);
+    }
+    if word == "update" {
+        return Some(Verb::Update);
     }
     if word == "query" {
         return Some(Verb::Query);

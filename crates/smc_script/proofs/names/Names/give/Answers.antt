@@ -1,6 +1,6 @@
-use Rattle.std.proofs.Common.{List, ℕ, ap, ◌∙◌}
+use Rattle.std.proofs.Common.{ap, ◌∙◌}
 use Rattle.smc_query.specs.Trees.{Word}
-use Rattle.smc_script.specs.Names.{Given, given_in, with_name}
+use Rattle.smc_script.specs.Names.{given_in, with_name}
 use Rattle.smc_script.proofs.NameLaws.{given-insert}
 use Rattle.smc_script.proofs.names.Names.give.Goals as goal
 

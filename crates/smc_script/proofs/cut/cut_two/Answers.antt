@@ -1,5 +1,5 @@
 use Rattle.smc_script.proofs.SaysLaws.{two-alone}
-use Rattle.smc_script.proofs.row.cut_two.Goals as goal
+use Rattle.smc_script.proofs.cut.cut_two.Goals as goal
 
 pub returns-in_default-behind-clause-none : goal.returns-in_default-behind-clause-none
 returns-in_default-behind-clause-none c =
