@@ -13,11 +13,13 @@ use Rattle.smc_does.specs.Does.{DoesSome}
 use Rattle.smc_does.proofs.DoesLaws.{does-then}
 use Rattle.smc_script.specs.declared.script.Part.{Part}
 use Rattle.smc_script.specs.declared.script.Room.{Room}
-use Rattle.smc_script.specs.Trees.{CommandTree, PartTree, compact, one, group, part_tree, query, stat}
+use Rattle.smc_script.specs.Trees.{CommandTree, PartTree, add, compact, get, one, group, part_tree, query, remove, set, stat}
+use Rattle.smc_replies.specs.Books.{Books, no_books}
+use Rattle.smc_replies.specs.Scripts.{CanRunPart}
 use Rattle.smc_replies.proofs.PartLaws.{one-more}
 use Rattle.smc_desk.specs.declared.alone.RunEnd.{RunEnd}
 use Rattle.smc_desk.specs.declared.alone.RunEnd.TheVariants.{Done, WriteFault, NoMemory}
-use Rattle.smc_desk.specs.Runs.{Closes, MayRun, PartEnds, PartsEnd, Replied, Replies, RepliesFront, RunsAs, shape_asked}
+use Rattle.smc_desk.specs.Runs.{Closes, PartEnds, PartsEnd, Replied, Replies, RepliesAll, RepliesFront, RunsAs, shape_asked}
 
 -- ---- bytes
 
@@ -41,79 +43,83 @@ next-part parts i d within =
     take-map part_tree (i + 1) parts ∙ map_more part_tree parts i d within ∙ ap (λ (x : List PartTree). x ++ part_tree (get_or parts i d) ∷ []) (sym (take-map part_tree i parts))
 
 -- it may be run where all may
-pub may-next : (shape : Layout) (parts : List Part) (i : ℕ) (d : Part) → i < length parts → AllByRecursion (MayRun shape) (map part_tree parts) → MayRun shape (part_tree (get_or parts i d))
+pub may-next : (shape : Layout) (parts : List Part) (i : ℕ) (d : Part) → i < length parts → AllByRecursion (CanRunPart shape) (map part_tree parts) → CanRunPart shape (part_tree (get_or parts i d))
 may-next shape [] i d within all = absurd (omega arith)
 may-next shape (part ∷ parts) zero d within all = all.0
 may-next shape (part ∷ parts) (suc i) d within all = may-next shape parts i d (omega (arith, within)) all.1
 
 -- ---- what was run
 
-pub ran-more : (parts : List PartTree) (part : PartTree) (first middle last : Caller) (a b c : Option (List ℕ)) → DoesSome first middle (λ calls. Replies Appends parts calls a b)
-    → DoesSome middle last (λ calls. Replied Appends part calls b c) → DoesSome first last (λ calls. Replies Appends (parts ++ part ∷ []) calls a c)
-ran-more parts part first middle last a b c before now = (
-  before.0 ++ now.0,
-  does-then before.1 now.1,
-  (before.2.0 ++ now.2.0, one-more parts part before.0 now.0 before.2.0 now.2.0 before.2.1 now.2.1, Appends-trans a b c before.2.0 now.2.0 before.2.2 now.2.2),
-)
+module _ (known : Books) where
+  pub ran-more : (parts : List PartTree) (part : PartTree) (now next : Books) (first middle last : Caller) (a b c : Option (List ℕ)) → DoesSome first middle (λ calls. Replies Appends parts known now calls a b)
+      → DoesSome middle last (λ calls. Replied Appends part now next calls b c) → DoesSome first last (λ calls. Replies Appends (parts ++ part ∷ []) known next calls a c)
+  ran-more parts part now next first middle last a b c before more = (
+    before.0 ++ more.0,
+    does-then before.1 more.1,
+    (before.2.0 ++ more.2.0, one-more parts part known now next before.0 more.0 before.2.0 more.2.0 before.2.1 more.2.1, Appends-trans a b c before.2.0 more.2.0 before.2.2 more.2.2),
+  )
 
--- the last reply of which was written in part
-pub ran-front : (parts : List PartTree) (part : PartTree) (first middle last : Caller) (a b c : Option (List ℕ)) → DoesSome first middle (λ calls. Replies Appends parts calls a b)
-    → DoesSome middle last (λ calls. Replied AppendsFront part calls b c) → DoesSome first last (λ calls. Replies AppendsFront (parts ++ part ∷ []) calls a c)
-ran-front parts part first middle last a b c before now = (
-  before.0 ++ now.0,
-  does-then before.1 now.1,
-  (before.2.0 ++ now.2.0, one-more parts part before.0 now.0 before.2.0 now.2.0 before.2.1 now.2.1, front-behind a b c before.2.0 now.2.0 before.2.2 now.2.2),
-)
+  -- the last reply of which was written in part
+  pub ran-front : (parts : List PartTree) (part : PartTree) (now next : Books) (first middle last : Caller) (a b c : Option (List ℕ)) → DoesSome first middle (λ calls. Replies Appends parts known now calls a b)
+      → DoesSome middle last (λ calls. Replied AppendsFront part now next calls b c) → DoesSome first last (λ calls. Replies AppendsFront (parts ++ part ∷ []) known next calls a c)
+  ran-front parts part now next first middle last a b c before more = (
+    before.0 ++ more.0,
+    does-then before.1 more.1,
+    (before.2.0 ++ more.2.0, one-more parts part known now next before.0 more.0 before.2.0 more.2.0 before.2.1 more.2.1, front-behind a b c before.2.0 more.2.0 before.2.2 more.2.2),
+  )
 
--- the last of which had no reply
-pub ran-kept : (parts : List PartTree) (first middle : Caller) (a b c : Option (List ℕ)) → DoesSome first middle (λ calls. Replies Appends parts calls a b) → Keeps b c
-    → (calls : List CallEnd) × Replies AppendsFront parts calls a c
-ran-kept parts first middle a b c before kept = (before.0, (before.2.0, before.2.1, front-all a c before.2.0 (Appends-kept a b c before.2.0 before.2.2 kept)))
+  -- the last of which had no reply
+  pub ran-kept : (parts : List PartTree) (now : Books) (first middle : Caller) (a b c : Option (List ℕ)) → DoesSome first middle (λ calls. Replies Appends parts known now calls a b) → Keeps b c
+      → (calls : List CallEnd) × Replies AppendsFront parts known now calls a c
+  ran-kept parts now first middle a b c before kept = (before.0, (before.2.0, before.2.1, front-all a c before.2.0 (Appends-kept a b c before.2.0 before.2.2 kept)))
 
--- a front of what all parts print is a front of what the first of them do
-pub front-of-all : (parts : List PartTree) (calls : List CallEnd) (a b : Option (List ℕ)) → Replies Appends parts calls a b → RepliesFront parts calls a b
-front-of-all parts calls a b all = (length parts, subst (λ x. Replies AppendsFront x calls a b) (sym (take_all (length parts) parts (omega arith))) (all.0, all.1, front-all a b all.0 all.2))
+  -- a front of what all parts print is a front of what the first of them do
+  pub front-of-all : (parts : List PartTree) (calls : List CallEnd) (a b : Option (List ℕ)) → RepliesAll parts known calls a b → RepliesFront parts known calls a b
+  front-of-all parts calls a b all =
+      (length parts, all.0, subst (λ x. Replies AppendsFront x known all.0 calls a b) (sym (take_all (length parts) parts (omega arith))) (all.1, all.2, front-all a b all.1 all.3))
 
--- the parts end with one that did not go on
-pub ends-within : (status : RunEnd) (all : List PartTree) (count : ℕ) (part : PartTree) (first middle last : Caller) (a b c : Option (List ℕ)) → take (count + 1) all ≡ take count all ++ part ∷ []
-    → (status ≡ Done → ⊥) → DoesSome first middle (λ calls. Replies Appends (take count all) calls a b) → PartEnds status part middle last b c → PartsEnd status all first last a c
-ends-within Done all count part first middle last a b c next not_done before ends = absurd (not_done refl)
-ends-within WriteFault all count part first middle last a b c next not_done before ends =
-    let ran = ran-front (take count all) part first middle last a b c before ends in
-    (ran.0, ran.1, (count + 1, subst (λ (ps : List PartTree). Replies AppendsFront ps ran.0 a c) (sym next) ran.2))
-ends-within NoMemory all count part first middle last a b c next not_done before ends =
-    let ran = ran-kept (take count all) first middle a b c before ends in
-    (ran.0, (count, ran.1))
+  -- the parts end with one that did not go on
+  pub ends-within : (status : RunEnd) (all : List PartTree) (count : ℕ) (part : PartTree) (now next : Books) (first middle last : Caller) (a b c : Option (List ℕ))
+      → take (count + 1) all ≡ take count all ++ part ∷ []
+      → (status ≡ Done → ⊥) → DoesSome first middle (λ calls. Replies Appends (take count all) known now calls a b) → PartEnds status part now next middle last b c → PartsEnd status all known first last a c
+  ends-within Done all count part now next first middle last a b c more not_done before ends = absurd (not_done refl)
+  ends-within WriteFault all count part now next first middle last a b c more not_done before ends =
+      let ran = ran-front (take count all) part now next first middle last a b c before ends in
+      (ran.0, ran.1, (count + 1, next, subst (λ (ps : List PartTree). Replies AppendsFront ps known next ran.0 a c) (sym more) ran.2))
+  ends-within NoMemory all count part now next first middle last a b c more not_done before ends =
+      let ran = ran-kept (take count all) now first middle a b c before ends in
+      (ran.0, (count, now, ran.1))
 
 -- ---- the whole run
 
 -- it was not, for want of memory
-pub ends-unclosed : (Closed : Option Ended → List CallEnd → Type 0) (status : RunEnd) (parts : List PartTree) (old new : Caller) (a b : Option (List ℕ)) → PartsEnd status parts old new a b
+pub ends-unclosed : (Closed : Option Ended → List CallEnd → Type 0) (status : RunEnd) (parts : List PartTree) (old new : Caller) (a b : Option (List ℕ)) → PartsEnd status parts no_books old new a b
     → RunsAs Closed NoMemory parts None a b
-ends-unclosed Closed Done parts old new a b ends = (ends.0, front-of-all parts ends.0 a b ends.2, refl)
+ends-unclosed Closed Done parts old new a b ends = (ends.0, front-of-all no_books parts ends.0 a b ends.2, refl)
 ends-unclosed Closed WriteFault parts old new a b ends = (ends.0, ends.2, refl)
 ends-unclosed Closed NoMemory parts old new a b ends = (ends.0, ends.1, refl)
 
 -- ---- without rooms
 
-no-test : false ≡ true → ⊥
-no-test is = cc
-
 -- a command needs a room
-cannot : (part : PartTree) → MayRun (shape_asked []) part → ⊥
+cannot : (part : PartTree) → CanRunPart (shape_asked []) part → ⊥
 cannot (one numbered) may = go numbered.command may
   where
-    go : (c : CommandTree) → MayRun (shape_asked []) (one (record { line = numbered.line; command = c })) → ⊥
-    go (stat place) may = omega (arith, may.1)
+    go : (c : CommandTree) → CanRunPart (shape_asked []) (one (record { line = numbered.line; command = c })) → ⊥
+    go (stat place) may = omega (arith, may)
     go (query place tree) may = omega (arith, may.1)
-    go (compact place) may = omega (arith, may.1)
-    go _ may = no-test may.0
-cannot (group workers) may = no-test may.0
+    go (compact place) may = omega (arith, may)
+    go (add place name row) may = let none = may.0.coll in omega (arith, none)
+    go (get place name) may = let none = may.coll in omega (arith, none)
+    go (set place name column value) may = let none = may.0.coll in omega (arith, none)
+    go (remove place name) may = omega (arith, may)
+    go _ may = may
+cannot (group workers) may = may
 
-pub no-parts : (parts : List PartTree) → AllByRecursion (MayRun (shape_asked [])) parts → parts ≡ []
+pub no-parts : (parts : List PartTree) → AllByRecursion (CanRunPart (shape_asked [])) parts → parts ≡ []
 no-parts [] all = refl
 no-parts (part ∷ later) all = absurd (cannot part all.0)
 
-pub nothing-to-run : (rooms : List Room) (parts : List PartTree) (a : Option (List ℕ)) → length rooms ≡ 0 → AllByRecursion (MayRun (shape_asked rooms)) parts → RunsAs (Closes rooms) Done parts None a a
-nothing-to-run [] parts a none may = subst (λ (ps : List PartTree). RunsAs (Closes []) Done ps None a a) (sym (no-parts parts may)) ([], ([], (refl, refl), Appends-nil a), refl)
+pub nothing-to-run : (rooms : List Room) (parts : List PartTree) (a : Option (List ℕ)) → length rooms ≡ 0 → AllByRecursion (CanRunPart (shape_asked rooms)) parts → RunsAs (Closes rooms) Done parts None a a
+nothing-to-run [] parts a none may = subst (λ (ps : List PartTree). RunsAs (Closes []) Done ps None a a) (sym (no-parts parts may)) ([], (no_books, [], (refl, refl, refl), Appends-nil a), refl)
 nothing-to-run (room ∷ later) parts a none may = absurd (omega arith)

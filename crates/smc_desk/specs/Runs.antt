@@ -1,6 +1,6 @@
 -- What the running of a script does and writes.
-use Rattle.std.specs.Prelude.{◌≡◌, ℕ, true, List, [], ◌∷◌, map, take, Option, Some, None}
-use Rattle.std.specs.List.{AllByRecursion, AllZip}
+use Rattle.std.specs.Prelude.{◌≡◌, ℕ, List, [], ◌∷◌, map, take, Option, Some, None}
+use Rattle.std.specs.List.{AllZip}
 use Rattle.std.specs.Io.KnownBytes.{Appends, Keeps}
 use Rattle.smc_outside.specs.Pieces.{AppendsFront}
 use Rattle.smc_shape.specs.declared.coll.CollShape.{CollShape}
@@ -16,7 +16,9 @@ use Rattle.smc_types.specs.Tables.{the_tables}
 use Rattle.smc_script.specs.declared.script.Room.{Room}
 use Rattle.smc_script.specs.Tables.{table_width}
 use Rattle.smc_script.specs.Trees.{PartTree, ScriptTree}
-use Rattle.smc_replies.specs.Scripts.{FitsRegion, RunsPart, RunsParts, is_known_part}
+use Rattle.smc_replies.specs.Books.{Books, no_books}
+use Rattle.smc_replies.specs.Scripts.{RunsPart, RunsParts}
+use Rattle.smc_desk.specs.declared.books.Books as own
 use Rattle.smc_desk.specs.declared.alone.RunEnd.{RunEnd}
 use Rattle.smc_desk.specs.declared.alone.RunEnd.TheVariants.{Done, WriteFault, NoMemory}
 
@@ -35,19 +37,20 @@ abbrev pub MayOpen : List Room → Type 0
 MayOpen [] = Unit {0}
 MayOpen (room ∷ later) = fault_of 1 (colls_asked (room ∷ later)) ≡ None
 
--- each part is one that is run, and its collections lie in the region
-abbrev pub MayRun : Layout → PartTree → Type 0
-MayRun shape part = (is_known_part part ≡ true) × FitsRegion shape part
-
 -- ---- parts that are run by a pass
 
--- parts were run by these calls, and what was written grew in this way by their replies
-abbrev pub Replies : (Option (List ℕ) → Option (List ℕ) → List ℕ → Type 0) → List PartTree → List CallEnd → Option (List ℕ) → Option (List ℕ) → Type 0
-Replies grows parts calls before after = (text : List ℕ) × RunsParts parts calls text × grows before after text
+-- what is known between commands
+abbrev pub seen : own.Books → Books
+seen books = record { names = books.names; keys = books.keys }
+
+-- parts were run by these calls, with what was known before them and after them, and what was written grew in this way by
+-- their replies
+abbrev pub Replies : (Option (List ℕ) → Option (List ℕ) → List ℕ → Type 0) → List PartTree → Books → Books → List CallEnd → Option (List ℕ) → Option (List ℕ) → Type 0
+Replies grows parts known now calls before after = (text : List ℕ) × RunsParts parts known now calls text × grows before after text
 
 -- the same of one part
-abbrev pub Replied : (Option (List ℕ) → Option (List ℕ) → List ℕ → Type 0) → PartTree → List CallEnd → Option (List ℕ) → Option (List ℕ) → Type 0
-Replied grows part calls before after = (text : List ℕ) × RunsPart part calls text × grows before after text
+abbrev pub Replied : (Option (List ℕ) → Option (List ℕ) → List ℕ → Type 0) → PartTree → Books → Books → List CallEnd → Option (List ℕ) → Option (List ℕ) → Type 0
+Replied grows part known now calls before after = (text : List ℕ) × RunsPart part known now calls text × grows before after text
 
 -- what is written of a text, as its writing ends: all of it, or a front
 abbrev pub Writes : RunEnd → Option (List ℕ) → Option (List ℕ) → List ℕ → Type 0
@@ -56,20 +59,24 @@ Writes WriteFault before after text = AppendsFront before after text
 Writes NoMemory before after text = ⊥
 
 -- how one part ends; without memory nothing was written
-abbrev pub PartEnds : RunEnd → PartTree → Caller → Caller → Option (List ℕ) → Option (List ℕ) → Type 0
-PartEnds Done part old new before after = DoesSome old new (λ calls. Replied Appends part calls before after)
-PartEnds WriteFault part old new before after = DoesSome old new (λ calls. Replied AppendsFront part calls before after)
-PartEnds NoMemory part old new before after = Keeps before after
+abbrev pub PartEnds : RunEnd → PartTree → Books → Books → Caller → Caller → Option (List ℕ) → Option (List ℕ) → Type 0
+PartEnds Done part known now old new before after = DoesSome old new (λ calls. Replied Appends part known now calls before after)
+PartEnds WriteFault part known now old new before after = DoesSome old new (λ calls. Replied AppendsFront part known now calls before after)
+PartEnds NoMemory part known now old new before after = Keeps before after
 
 -- the first parts, as many as were run, were run by these calls, and a front of their replies was written
-abbrev pub RepliesFront : List PartTree → List CallEnd → Option (List ℕ) → Option (List ℕ) → Type 0
-RepliesFront parts calls before after = (count : ℕ) × Replies AppendsFront (take count parts) calls before after
+abbrev pub RepliesFront : List PartTree → Books → List CallEnd → Option (List ℕ) → Option (List ℕ) → Type 0
+RepliesFront parts known calls before after = (count : ℕ) × (now : Books) × Replies AppendsFront (take count parts) known now calls before after
+
+-- all parts were run by these calls, and all their replies were written
+abbrev pub RepliesAll : List PartTree → Books → List CallEnd → Option (List ℕ) → Option (List ℕ) → Type 0
+RepliesAll parts known calls before after = (now : Books) × Replies Appends parts known now calls before after
 
 -- how parts end
-abbrev pub PartsEnd : RunEnd → List PartTree → Caller → Caller → Option (List ℕ) → Option (List ℕ) → Type 0
-PartsEnd Done parts old new before after = DoesSome old new (λ calls. Replies Appends parts calls before after)
-PartsEnd WriteFault parts old new before after = DoesSome old new (λ calls. RepliesFront parts calls before after)
-PartsEnd NoMemory parts old new before after = (calls : List CallEnd) × RepliesFront parts calls before after
+abbrev pub PartsEnd : RunEnd → List PartTree → Books → Caller → Caller → Option (List ℕ) → Option (List ℕ) → Type 0
+PartsEnd Done parts known old new before after = DoesSome old new (λ calls. RepliesAll parts known calls before after)
+PartsEnd WriteFault parts known old new before after = DoesSome old new (λ calls. RepliesFront parts known calls before after)
+PartsEnd NoMemory parts known old new before after = (calls : List CallEnd) × RepliesFront parts known calls before after
 
 -- ---- the closed region
 
@@ -97,17 +104,12 @@ Closes (room ∷ later) quiet calls = HasClosed (shape_asked (room ∷ later)) q
 
 -- ---- a script
 
--- how the running of parts ends: by calls that are those of the closed region
+-- how the running of parts ends, before which nothing was known: by calls that are those of the closed region
 abbrev pub RunsAs : (Option Ended → List CallEnd → Type 0) → RunEnd → List PartTree → Option Ended → Option (List ℕ) → Option (List ℕ) → Type 0
-RunsAs Closed Done parts quiet before after = (calls : List CallEnd) × Replies Appends parts calls before after × Closed quiet calls
-RunsAs Closed WriteFault parts quiet before after = (calls : List CallEnd) × RepliesFront parts calls before after × Closed quiet calls
-RunsAs Closed NoMemory parts quiet before after = (calls : List CallEnd) × RepliesFront parts calls before after × (quiet ≡ None)
+RunsAs Closed Done parts quiet before after = (calls : List CallEnd) × RepliesAll parts no_books calls before after × Closed quiet calls
+RunsAs Closed WriteFault parts quiet before after = (calls : List CallEnd) × RepliesFront parts no_books calls before after × Closed quiet calls
+RunsAs Closed NoMemory parts quiet before after = (calls : List CallEnd) × RepliesFront parts no_books calls before after × (quiet ≡ None)
 
 -- how the running of a script ends
 abbrev pub RunsTo : RunEnd → ScriptTree → Option Ended → Option (List ℕ) → Option (List ℕ) → Type 0
 RunsTo end script quiet before after = RunsAs (Closes script.rooms) end script.parts quiet before after
-
--- what holds of a script that was read: a region may have its rooms, and the collections of its parts lie in it
-pub record IsSound (script : ScriptTree) : Type 0 where
-  pub opens : MayOpen script.rooms
-  pub fits : AllByRecursion (FitsRegion (shape_asked script.rooms)) script.parts

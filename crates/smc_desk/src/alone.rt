@@ -10,8 +10,10 @@ ghost use Rattle.smc_script.specs.Trees.{numbered_tree, part_tree, script_tree};
 ghost use Rattle.smc_script.specs.Trees as trees;
 ghost use Rattle.smc_region.specs.Reached.{IsReached};
 ghost use Rattle.smc_core.specs.declared.section.TheConstants.{FIRST_EPOCH};
-ghost use Rattle.smc_desk.specs.Runs.{HasClosed, MayOpen, MayRun, PartEnds, PartsEnd, Writes, RunsAs, RunsTo, colls_asked, shape_asked};
+ghost use Rattle.smc_replies.specs.Scripts.{CanRunPart};
+ghost use Rattle.smc_desk.specs.Runs.{HasClosed, MayOpen, PartEnds, PartsEnd, Writes, RunsAs, RunsTo, colls_asked, seen, shape_asked};
 
+use crate::books::Books;
 use crate::outside::one;
 use crate::reply::Reply;
 use smc_core::Opening;
@@ -86,6 +88,7 @@ fn run_one<O: Sink>(
     alloc: Global,
     numbered: &Numbered,
     catalog: &Catalog,
+    books: &mut Books,
     pass: Pass,
     region: &Region,
     out: &mut O,
@@ -93,13 +96,13 @@ fn run_one<O: Sink>(
     requires here { IsPassOf region.now pass }
     requires free { OwnsNone pass }
     requires tables { catalog.now ≡ the_tables }
-    requires may { MayRun region.now.about.shape (trees.one (numbered_tree numbered.now)) }
+    requires may { CanRunPart region.now.about.shape (trees.one (numbered_tree numbered.now)) }
     ensures home { IsSame pass result.0 × OwnsNone result.0 }
-    ensures ends { PartEnds result.1 (trees.one (numbered_tree numbered.now)) pass result.0 (O.held out.old) (O.held out.new) }
+    ensures ends { PartEnds result.1 (trees.one (numbered_tree numbered.now)) (seen books.old) (seen books.new) pass result.0 (O.held out.old) (O.held out.new) }
     ensures cause { result.1 ≡ RunEnd.WriteFault → Rose (O.faults out.old) (O.faults out.new) }
     ensures later { O.faults out.old ≤ O.faults out.new }
 {
-    let (pass, reply) = one(alloc, &numbered.command, catalog, pass, region);
+    let (pass, reply) = one(alloc, &numbered.command, catalog, books, pass, region);
     match reply {
         Ok(reply) => (pass, write_reply(out, &reply)),
         Err(_) => (pass, RunEnd::NoMemory),
@@ -111,6 +114,7 @@ fn run_part<O: Sink>(
     alloc: Global,
     part: &Part,
     catalog: &Catalog,
+    books: &mut Books,
     pass: Pass,
     region: &Region,
     out: &mut O,
@@ -118,14 +122,14 @@ fn run_part<O: Sink>(
     requires here { IsPassOf region.now pass }
     requires free { OwnsNone pass }
     requires tables { catalog.now ≡ the_tables }
-    requires may { MayRun region.now.about.shape (part_tree part.now) }
+    requires may { CanRunPart region.now.about.shape (part_tree part.now) }
     ensures home { IsSame pass result.0 × OwnsNone result.0 }
-    ensures ends { PartEnds result.1 (part_tree part.now) pass result.0 (O.held out.old) (O.held out.new) }
+    ensures ends { PartEnds result.1 (part_tree part.now) (seen books.old) (seen books.new) pass result.0 (O.held out.old) (O.held out.new) }
     ensures cause { result.1 ≡ RunEnd.WriteFault → Rose (O.faults out.old) (O.faults out.new) }
     ensures later { O.faults out.old ≤ O.faults out.new }
 {
     match part {
-        Part::One(numbered) => run_one(alloc, numbered, catalog, pass, region, out),
+        Part::One(numbered) => run_one(alloc, numbered, catalog, books, pass, region, out),
         Part::Group { .. } => unreachable!(),
     }
 }
@@ -135,6 +139,7 @@ fn run_parts<O: Sink>(
     alloc: Global,
     parts: &[Part],
     catalog: &Catalog,
+    books: &mut Books,
     pass: Pass,
     region: &Region,
     out: &mut O,
@@ -142,15 +147,15 @@ fn run_parts<O: Sink>(
     requires here { IsPassOf region.now pass }
     requires free { OwnsNone pass }
     requires tables { catalog.now ≡ the_tables }
-    requires may { AllByRecursion (MayRun region.now.about.shape) (map part_tree parts.now) }
+    requires may { AllByRecursion (CanRunPart region.now.about.shape) (map part_tree parts.now) }
     ensures home { IsSame pass result.0 × OwnsNone result.0 }
-    ensures ends { PartsEnd result.1 (map part_tree parts.now) pass result.0 (O.held out.old) (O.held out.new) }
+    ensures ends { PartsEnd result.1 (map part_tree parts.now) (seen books.old) pass result.0 (O.held out.old) (O.held out.new) }
     ensures cause { result.1 ≡ RunEnd.WriteFault → Rose (O.faults out.old) (O.faults out.new) }
     ensures later { O.faults out.old ≤ O.faults out.new }
 {
     let mut pass = pass;
     for part in parts {
-        let (next, end) = run_part(alloc, part, catalog, pass, region, out);
+        let (next, end) = run_part(alloc, part, catalog, books, pass, region, out);
         pass = next;
         match end {
             RunEnd::Done => {}
@@ -194,7 +199,7 @@ fn close_region(region: Region, pass: Pass, mut passes: Vec<Pass>) -> Result<Qui
 fn run_in<O: Sink>(alloc: Global, catalog: &Catalog, shape: Shape, parts: &[Part], out: &mut O) -> Ran
     requires tables { catalog.now ≡ the_tables }
     requires one { shape.passes ≡ 1 }
-    requires may { AllByRecursion (MayRun shape) (map part_tree parts.now) }
+    requires may { AllByRecursion (CanRunPart shape) (map part_tree parts.now) }
     ensures ends { RunsAs (HasClosed shape) result.end (map part_tree parts.now) result.quiet (O.held out.old) (O.held out.new) }
     ensures cause { result.end ≡ RunEnd.WriteFault → Rose (O.faults out.old) (O.faults out.new) }
     ensures later { O.faults out.old ≤ O.faults out.new }
@@ -202,7 +207,8 @@ fn run_in<O: Sink>(alloc: Global, catalog: &Catalog, shape: Shape, parts: &[Part
     let Ok((region, pass, passes)) = open_region(alloc, shape) else {
         return Ran::without(RunEnd::NoMemory);
     };
-    let (pass, end) = run_parts(alloc, parts, catalog, pass, &region, out);
+    let mut books = Books::new(alloc);
+    let (pass, end) = run_parts(alloc, parts, catalog, &mut books, pass, &region, out);
     if matches!(end, RunEnd::NoMemory) {
         return Ran::without(RunEnd::NoMemory);
     }
@@ -219,7 +225,7 @@ fn run_in<O: Sink>(alloc: Global, catalog: &Catalog, shape: Shape, parts: &[Part
 pub fn run_alone<O: Sink>(alloc: Global, script: &Script, catalog: &Catalog, out: &mut O) -> Ran
     requires tables { catalog.now ≡ the_tables }
     requires opens { MayOpen script.now.rooms }
-    requires may { AllByRecursion (MayRun (shape_asked script.now.rooms)) (map part_tree script.now.parts) }
+    requires may { AllByRecursion (CanRunPart (shape_asked script.now.rooms)) (map part_tree script.now.parts) }
     ensures ends { RunsTo result.end (script_tree script.now) result.quiet (O.held out.old) (O.held out.new) }
     ensures cause { result.end ≡ RunEnd.WriteFault → Rose (O.faults out.old) (O.faults out.new) }
     ensures later { O.faults out.old ≤ O.faults out.new }

@@ -5,8 +5,11 @@ ghost use Rattle.smc_does.specs.Does.{DoesSome, OwnsNone};
 ghost use Rattle.smc_query.specs.Trees.{item_tree, query_tree};
 ghost use Rattle.smc_script.specs.Trees.{command_tree};
 ghost use Rattle.smc_types.specs.Tables.{the_tables};
-ghost use Rattle.smc_replies.specs.Commands.{Counts, IsInRegion, PacksTable, RunsCommand, count_row, counts_all, is_known, objects_line, shows_count};
+ghost use Rattle.smc_desk.specs.Runs.{seen};
+ghost use Rattle.smc_replies.specs.Commands.{CanRun, Counts, PacksTable, RunsCommand, count_row, counts_all, is_known, objects_line, shows_count};
 
+use crate::books::Books;
+use crate::objects::{add, get, remove, set};
 use crate::reply::{Reply, count_row, objects_line, packed_reply};
 use crate::tables::table_name;
 use smc_compact::pack;
@@ -68,21 +71,42 @@ pub fn one(
     alloc: Global,
     c: &Command,
     catalog: &Catalog,
+    books: &mut Books,
     pass: Pass,
     region: &Region,
 ) -> (Pass, Result<Reply, NoMemory>)
     requires here { IsPassOf region.now pass }
     requires free { OwnsNone pass }
     requires tables { catalog.now ≡ the_tables }
-    requires known { is_known (command_tree c.now) ≡ true }
-    requires fits { IsInRegion region.now.about.shape (command_tree c.now) }
-    ensures done { IfOk result.1 (λ reply. DoesSome pass result.0 (λ calls. RunsCommand (command_tree c.now) calls reply)) }
+    requires can { CanRun region.now.about.shape (command_tree c.now) }
+    ensures done { IfOk result.1 (λ reply. DoesSome pass result.0 (λ calls. RunsCommand (command_tree c.now) (seen books.old) (seen books.new) calls reply)) }
     ensures home { IsSame pass result.0 × OwnsNone result.0 }
 {
     match c {
         Command::Stat { place } => stat(alloc, place.coll, pass, region),
         Command::Query { place, .. } => count(alloc, place.coll, pass, region),
         Command::Compact { place } => compact(alloc, *place, catalog, pass, region),
+        Command::Add { place, name, row } => {
+            add(alloc, *place, name, row, catalog, books, pass, region)
+        }
+        Command::Get { place, name } => get(alloc, *place, name, catalog, books, pass, region),
+        Command::Set {
+            place,
+            name,
+            column,
+            value,
+        } => set(
+            alloc,
+            *place,
+            name,
+            column,
+            value,
+            catalog,
+            books,
+            pass,
+            region,
+        ),
+        Command::Remove { place, name } => remove(alloc, *place, name, books, pass, region),
         _ => unreachable!(),
     }
 }

@@ -1,32 +1,45 @@
 //! The reply to a command.
-ghost use Rattle.std.specs.Prelude.{◌≡◌, IfOk, string_bytes};
+ghost use Rattle.std.specs.Prelude.{◌≡◌, IfOk, codes, length, string_bytes};
+ghost use Rattle.smc_types.specs.Columns.{columns_width};
+ghost use Rattle.smc_replies.specs.Objects.{PrintsObject, add_line, found_line, null_line};
 ghost use Rattle.smc_replies.specs.Commands.{count_row, objects_line, packed_line, packed_reply};
 
 use smc_compact::{Census, Outcome, Packed};
-use smc_words::NoMemory;
+use smc_tbl::print_row;
+use smc_types::{Schema, decode};
+use smc_words::{NoMemory, Number};
 use std::alloc::Global;
 use std::marker::Model;
 
 /// The reply to a command, with its line ends. Contracts see its bytes.
 #[derive(Debug, Drop)]
 pub struct Reply {
-    text: String,
+    text: Vec<u8>,
 }
 
 impl Model for Reply {
-    ghost use Rattle.std.specs.Prelude.{List, ℕ, string_bytes};
+    ghost use Rattle.std.specs.Prelude.{List, ℕ};
 
     ghost Value = { List ℕ };
 
-    ghost view = { λ reply. string_bytes reply.text };
+    ghost view = { λ reply. reply.text.items };
 }
 
 impl Reply {
+    /// From a text, which takes no memory.
+    fn of(text: String) -> Reply
+        ensures { result ≡ string_bytes text }
+    {
+        Reply {
+            text: text.into_bytes(),
+        }
+    }
+
     /// The bytes of the reply.
     pub fn text(&self) -> &[u8]
         ensures { result.now ≡ self.now }
     {
-        self.text.as_bytes()
+        self.text.as_slice()
     }
 }
 
@@ -34,18 +47,14 @@ impl Reply {
 pub(crate) fn objects_line(alloc: Global, count: u64) -> Result<Reply, NoMemory>
     ensures { IfOk result (λ reply. reply ≡ objects_line count) }
 {
-    Ok(Reply {
-        text: format!(in alloc; "objects {count}\n")?,
-    })
+    Ok(Reply::of(format!(in alloc; "objects {count}\n")?))
 }
 
 /// An answer of one row, which says how many rows the query has met.
 pub(crate) fn count_row(alloc: Global, count: u64) -> Result<Reply, NoMemory>
     ensures { IfOk result (λ reply. reply ≡ count_row count) }
 {
-    Ok(Reply {
-        text: format!(in alloc; "rows 1\n{count}\n")?,
-    })
+    Ok(Reply::of(format!(in alloc; "rows 1\n{count}\n")?))
 }
 
 // The line that says how many objects a table of this name has, and how many blocks hold them.
@@ -66,5 +75,57 @@ pub(crate) fn packed_reply(alloc: Global, table: &str, packed: Packed) -> Result
         Outcome::Later { .. } => String::from_str(alloc, "later\n")?,
         Outcome::Spent => String::from_str(alloc, "spent\n")?,
     };
+    Ok(Reply::of(text))
+}
+
+/// The reply where a name has no object, or where its object is not found.
+pub(crate) fn null_reply(alloc: Global) -> Result<Reply, NoMemory>
+    ensures { IfOk result (λ reply. reply ≡ null_line) }
+{
+    Ok(Reply::of(String::from_str(alloc, "null\n")?))
+}
+
+/// This line, where the object was found.
+pub(crate) fn found_reply(alloc: Global, found: bool, line: &str) -> Result<Reply, NoMemory>
+    ensures { IfOk result (λ reply. reply ≡ found_line found line.now) }
+{
+    if found {
+        Ok(Reply::of(String::from_str(alloc, line)?))
+    } else {
+        null_reply(alloc)
+    }
+}
+
+/// The reply to an add, behind which this object stands under the name, or none.
+pub(crate) fn add_reply(
+    alloc: Global,
+    object: Option<Number>,
+    name: &str,
+) -> Result<Reply, NoMemory>
+    ensures { IfOk result (λ reply. reply ≡ add_line object name.now) }
+{
+    let text = match object {
+        Some(_) => format!(in alloc; "added {name}\n")?,
+        None => String::from_str(alloc, "full\n")?,
+    };
+    Ok(Reply::of(text))
+}
+
+/// The row that stands in the words of an object, where it was found.
+pub(crate) fn object_reply(
+    alloc: Global,
+    schema: &Schema,
+    found: bool,
+    words: &[u64],
+) -> Result<Reply, NoMemory>
+    requires { length words.now ≡ columns_width schema.now.columns }
+    ensures { IfOk result (λ reply. PrintsObject schema.now.columns found words.now reply) }
+{
+    if !found {
+        return null_reply(alloc);
+    }
+    let row = decode(alloc, words, schema)?;
+    let mut text = print_row(alloc, &row, schema)?;
+    text.push(b'\n')?;
     Ok(Reply { text })
 }

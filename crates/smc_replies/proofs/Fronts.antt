@@ -8,16 +8,16 @@ use Rattle.smc_trace.specs.Named.{begins, comes_to, enters, leaves}
 use Rattle.smc_trace.specs.Trace.{CallEnd}
 use Rattle.smc_objects.specs.Alone.{CountsObjects, InSection, visits_all}
 use Rattle.smc_replies.specs.Commands.{Counts}
-use Rattle.smc_replies.specs.Laws.{IsOnePart}
+use Rattle.smc_replies.proofs.Replied.{IsOneReply}
 
 -- the first of two equal lists of calls have one answer, and one event
-first-done : (x y : CallEnd) (s t : List CallEnd) → (x ∷ s) ≡ (y ∷ t) → x.done ≡ y.done
+pub first-done : (x y : CallEnd) (s t : List CallEnd) → (x ∷ s) ≡ (y ∷ t) → x.done ≡ y.done
 first-done x y s t is = let same : x ≡ y = cc in ap (λ (k : CallEnd). k.done) same
 
-first-event : (x y : CallEnd) (s t : List CallEnd) → (x ∷ s) ≡ (y ∷ t) → x.event ≡ y.event
+pub first-event : (x y : CallEnd) (s t : List CallEnd) → (x ∷ s) ≡ (y ∷ t) → x.event ≡ y.event
 first-event x y s t is = let same : x ≡ y = cc in ap (λ (k : CallEnd). k.event) same
 
-later-calls : (x y : CallEnd) (s t : List CallEnd) → (x ∷ s) ≡ (y ∷ t) → s ≡ t
+pub later-calls : (x y : CallEnd) (s t : List CallEnd) → (x ∷ s) ≡ (y ∷ t) → s ≡ t
 later-calls x y s t is = cc
 
 same-visit : (x y : Held) → x.number ≡ y.number → x.slot ≡ y.slot → x ≡ y
@@ -99,12 +99,8 @@ scans-front coll count count' first other rest behind one two same =
     record { calls = f ∙ read.calls ∙ sym o; later = read.later; visits = read.visits }
 
 pub counts-one : (line : ℕ → List ℕ) (coll : ℕ) (first other rest behind : List CallEnd) (text said : List ℕ) → Counts line coll first text → Counts line coll other said → first ++ rest ≡ other ++ behind
-    → IsOnePart first other rest behind text said
+    → IsOneReply rest behind text said
 counts-one line coll first other rest behind text said one two same =
     let read = scans-front coll one.count two.count first other rest behind one.counts two.counts same in
     let many : one.count ≡ two.count = sym one.counts.holds.counted ∙ ap (λ (m : List Held). length m) read.visits ∙ two.counts.holds.counted in
-    record {
-      calls = read.calls;
-      later = read.later;
-      reply = one.reply ∙ ap line many ∙ sym two.reply;
-    }
+    (read.later, one.reply ∙ ap line many ∙ sym two.reply)

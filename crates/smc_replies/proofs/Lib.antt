@@ -1,3 +1,5 @@
+pub mod Replied
 pub mod Fronts
 pub mod PackFronts
+pub mod ObjectFronts
 pub mod PartLaws

@@ -1,20 +1,15 @@
 -- The calls that pack a table are read off from the front of a trace.
 use Rattle.std.proofs.Common.{◌≡◌, ℕ, List, ◌++◌, sym, ap, ◌∙◌}
-use Rattle.std.proofs.lemmas.List.{append_cancel_right}
 use Rattle.smc_trace.specs.Trace.{CallEnd}
 use Rattle.smc_compact.specs.declared.packing.Packed.{Packed}
 use Rattle.smc_compact.proofs.OneLaws.{packs-front}
 use Rattle.smc_script.specs.declared.script.Place.{Place}
 use Rattle.smc_replies.specs.Commands.{PacksTable, packed_reply, table_name}
-use Rattle.smc_replies.specs.Laws.{IsOnePart}
+use Rattle.smc_replies.proofs.Replied.{IsOneReply}
 use Rattle.smc_replies.specs.declared.limits.TheConstants.{COMPACT_TURNS}
 
 pub packs-one : (place : Place) (first other rest behind : List CallEnd) (text said : List ℕ) → PacksTable place first text → PacksTable place other said → first ++ rest ≡ other ++ behind
-    → IsOnePart first other rest behind text said
+    → IsOneReply rest behind text said
 packs-one place first other rest behind text said one two same =
     let read = packs-front place.coll COMPACT_TURNS one.packed two.packed first other rest behind one.packs two.packs same in
-    record {
-      calls = append_cancel_right first other rest (same ∙ ap (λ (x : List CallEnd). other ++ x) (sym read.1));
-      later = read.1;
-      reply = one.reply ∙ ap (λ (p : Packed). packed_reply (table_name place.table) p) read.0 ∙ sym two.reply;
-    }
+    (read.1, one.reply ∙ ap (λ (p : Packed). packed_reply (table_name place.table) p) read.0 ∙ sym two.reply)

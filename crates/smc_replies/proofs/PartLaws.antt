@@ -1,63 +1,109 @@
 -- Parts that are run one behind another.
-use Rattle.std.proofs.Common.{◌≡◌, ℕ, List, [], ◌∷◌, ◌++◌, refl, sym, ap, ◌∙◌, append_assoc, append-nil}
+use Rattle.std.proofs.Common.{◌≡◌, ℕ, Option, List, [], ◌∷◌, ◌++◌, refl, sym, subst, ap, ◌∙◌, append_assoc, append-nil}
+use Rattle.smc_words.specs.declared.number.Number.{Number}
 use Rattle.smc_trace.specs.Trace.{CallEnd}
-use Rattle.smc_script.specs.Trees.{PartTree, compact, one, group, query, stat}
+use Rattle.smc_query.specs.Trees.{Word}
+use Rattle.smc_types.specs.Tables.{the_tables}
+use Rattle.smc_script.specs.Tables.{schema_of}
+use Rattle.smc_script.specs.Trees.{PartTree, add, compact, get, one, group, query, remove, set, stat}
+use Rattle.smc_script.specs.declared.script.Place.{Place}
+use Rattle.smc_replies.specs.Books.{Books, Named, object_of}
 use Rattle.smc_replies.specs.Laws.{CommandIsOne, IsOnePart, OnePartMore, TextIsOne}
+use Rattle.smc_replies.specs.Objects.{GetsBy, OnObject, RemovesNamed, SetsBy}
 use Rattle.smc_replies.specs.Scripts.{RunsPart, RunsParts}
 use Rattle.smc_replies.specs.Commands.{count_row, objects_line}
+use Rattle.smc_replies.proofs.Replied.{IsOneReply, part-of}
 use Rattle.smc_replies.proofs.Fronts.{counts-one}
 use Rattle.smc_replies.proofs.PackFronts.{packs-one}
+use Rattle.smc_replies.proofs.ObjectFronts.{DayHasOneText, adds-one, gets-one, on-object-one, removes-one, sets-one}
 
-pub command-one : CommandIsOne
-command-one (stat place) first other rest behind text said runs again same = counts-one objects_line place.coll first other rest behind text said runs again same
-command-one (query place tree) first other rest behind text said runs again same = counts-one count_row place.coll first other rest behind text said runs.1 again.1 same
-command-one (compact place) first other rest behind text said runs again same = packs-one place first other rest behind text said runs again same
-command-one _ first other rest behind text said runs again same = absurd runs
+-- the names before are those behind, where the command gives none
+names-kept : (old new before after : Books) → old.names ≡ before.names → new ≡ old → after ≡ before → new.names ≡ after.names
+names-kept old new before after are kept again = ap (λ (b : Books). b.names) kept ∙ are ∙ ap (λ (b : Books). b.names) (sym again)
 
-pub part-one : (part : PartTree) (first other rest behind : List CallEnd) (text said : List ℕ) → RunsPart part first text → RunsPart part other said → first ++ rest ≡ other ++ behind
-    → IsOnePart first other rest behind text said
-part-one (one numbered) first other rest behind text said runs again same = command-one numbered.command first other rest behind text said runs again same
-part-one (group workers) first other rest behind text said runs again same = absurd runs
+-- a command on the object of a name, by the same names
+on-name-one : (names others : List Named) (coll : ℕ) (name : Word) (does : Number → List CallEnd → List ℕ → Type 0) (first other rest behind : List CallEnd) (text said : List ℕ)
+    → ((number : Number) → does number first text → does number other said → IsOneReply rest behind text said) → names ≡ others
+    → OnObject (object_of names coll name) does first text → OnObject (object_of others coll name) does other said → first ++ rest ≡ other ++ behind → IsOneReply rest behind text said
+on-name-one names others coll name does first other rest behind text said each are runs again same =
+    on-object-one (object_of others coll name) does first other rest behind text said each
+    (subst (λ (x : List Named). OnObject (object_of x coll name) does first text) are runs) again same
+
+pub command-one : DayHasOneText → CommandIsOne
+command-one days (stat place) old new before after first other rest behind text said are runs again same =
+    part-of new after first other rest behind text said same (counts-one objects_line place.coll first other rest behind text said runs.1 again.1 same) (names-kept old new before after are runs.0 again.0)
+command-one days (query place tree) old new before after first other rest behind text said are runs again same =
+    part-of new after first other rest behind text said same (counts-one count_row place.coll first other rest behind text said runs.2 again.2 same) (names-kept old new before after are runs.0 again.0)
+command-one days (compact place) old new before after first other rest behind text said are runs again same =
+    part-of new after first other rest behind text said same (packs-one place first other rest behind text said runs.1 again.1 same) (names-kept old new before after are runs.0 again.0)
+command-one days (add place name row) old new before after first other rest behind text said are runs again same =
+    let read = adds-one (schema_of the_tables place.table) place name row old new before after first other rest behind text said are runs again same in
+    part-of new after first other rest behind text said same read.0 read.1
+command-one days (get place name) old new before after first other rest behind text said are runs again same =
+    let schema = schema_of the_tables place.table in
+    part-of new after first other rest behind text said same
+    (on-name-one old.names before.names place.coll name (GetsBy schema) first other rest behind text said
+    (λ number here there. gets-one days schema number first other rest behind text said here there same) are runs.1 again.1 same)
+    (names-kept old new before after are runs.0 again.0)
+command-one days (set place name column value) old new before after first other rest behind text said are runs again same =
+    let schema = schema_of the_tables place.table in
+    part-of new after first other rest behind text said same
+    (on-name-one old.names before.names place.coll name (SetsBy schema column value) first other rest behind text said
+    (λ number here there. sets-one schema column value number first other rest behind text said here there same) are runs.1 again.1 same)
+    (names-kept old new before after are runs.0 again.0)
+command-one days (remove place name) old new before after first other rest behind text said are runs again same =
+    part-of new after first other rest behind text said same
+    (on-name-one old.names before.names place.coll name RemovesNamed first other rest behind text said
+    (λ number here there. removes-one number first other rest behind text said here there same) are runs.1 again.1 same)
+    (names-kept old new before after are runs.0 again.0)
+command-one days _ old new before after first other rest behind text said are runs again same = absurd runs
+
+pub part-one : DayHasOneText → (part : PartTree) (old new before after : Books) (first other rest behind : List CallEnd) (text said : List ℕ) → old.names ≡ before.names
+    → RunsPart part old new first text → RunsPart part before after other said → first ++ rest ≡ other ++ behind → IsOnePart new after first other rest behind text said
+part-one days (one numbered) old new before after first other rest behind text said are runs again same =
+    command-one days numbered.command old new before after first other rest behind text said are runs again same
+part-one days (group workers) old new before after first other rest behind text said are runs again same = absurd runs
 
 -- nothing was run
-pub runs-none : RunsParts [] [] []
-runs-none = (refl, refl)
+pub runs-none : (books : Books) → RunsParts [] books books [] []
+runs-none books = (refl, refl, refl)
 
--- the calls of parts may be given by an equal list, and their text too
-pub runs-same : (parts : List PartTree) (calls others : List CallEnd) (text said : List ℕ) → calls ≡ others → text ≡ said → RunsParts parts calls text → RunsParts parts others said
-runs-same [] calls others text said c t runs = (sym c ∙ runs.0, sym t ∙ runs.1)
-runs-same (part ∷ later) calls others text said c t runs = (runs.0, runs.1, runs.2, runs.3, runs.4, runs.5, sym c ∙ runs.6, sym t ∙ runs.7)
+-- the calls of parts may be given by an equal list
+pub runs-same : (parts : List PartTree) (old new : Books) (calls others : List CallEnd) (text : List ℕ) → calls ≡ others → RunsParts parts old new calls text → RunsParts parts old new others text
+runs-same parts old new calls others text is runs = subst (λ (x : List CallEnd). RunsParts parts old new x text) is runs
 
 -- a front of two lists, and what is behind it
 joined : {A : Type 0} (whole front back more : List A) → whole ≡ front ++ back → whole ++ more ≡ front ++ (back ++ more)
 joined whole front back more is = ap (λ x. x ++ more) is ∙ append_assoc front back more
 
 pub one-more : OnePartMore
-one-more [] part before calls text said runs more = (
+one-more [] part old middle new before calls text said runs more = (
+  new,
   calls,
   [],
   said,
   [],
-  more,
-  (refl, refl),
-  ap (λ (x : List CallEnd). x ++ calls) runs.0 ∙ sym (append-nil calls),
-  ap (λ (x : List ℕ). x ++ said) runs.1 ∙ sym (append-nil said),
+  subst (λ (b : Books). RunsPart part b new calls said) runs.0 more,
+  (refl, refl, refl),
+  ap (λ (x : List CallEnd). x ++ calls) runs.1 ∙ sym (append-nil calls),
+  ap (λ (x : List ℕ). x ++ said) runs.2 ∙ sym (append-nil said),
 )
-one-more (p ∷ ps) part before calls text said runs more = (
+one-more (p ∷ ps) part old middle new before calls text said runs more = (
   runs.0,
-  runs.1 ++ calls,
-  runs.2,
-  runs.3 ++ said,
-  runs.4,
-  one-more ps part runs.1 calls runs.3 said runs.5 more,
-  joined before runs.0 runs.1 calls runs.6,
-  joined text runs.2 runs.3 said runs.7,
+  runs.1,
+  runs.2 ++ calls,
+  runs.3,
+  runs.4 ++ said,
+  runs.5,
+  one-more ps part runs.0 middle new runs.2 calls runs.4 said runs.6 more,
+  joined before runs.1 runs.2 calls runs.7,
+  joined text runs.3 runs.4 said runs.8,
 )
 
-pub text-one : TextIsOne
-text-one [] calls text said runs again = runs.1 ∙ sym again.1
-text-one (part ∷ later) calls text said runs again =
-    let same = part-one part runs.0 again.0 runs.1 again.1 runs.2 again.2 runs.4 again.4 (sym runs.6 ∙ again.6) in
-    let moved : RunsParts later runs.1 again.3 = runs-same later again.1 runs.1 again.3 again.3 (sym same.later) refl again.5 in
-    let behind : runs.3 ≡ again.3 = text-one later runs.1 runs.3 again.3 runs.5 moved in
-    runs.7 ∙ ap (λ (x : List ℕ). x ++ runs.3) same.reply ∙ ap (λ (x : List ℕ). again.2 ++ x) behind ∙ sym again.7
+pub text-one : DayHasOneText → TextIsOne
+text-one days [] old new before after calls text said are runs again = runs.2 ∙ sym again.2
+text-one days (part ∷ later) old new before after calls text said are runs again =
+    let same = part-one days part old runs.0 before again.0 runs.1 again.1 runs.2 again.2 runs.3 again.3 are runs.5 again.5 (sym runs.7 ∙ again.7) in
+    let moved : RunsParts later again.0 after runs.2 again.4 = runs-same later again.0 after again.2 runs.2 again.4 (sym same.later) again.6 in
+    let behind : runs.4 ≡ again.4 = text-one days later runs.0 new again.0 after runs.2 runs.4 again.4 same.names runs.6 moved in
+    runs.8 ∙ ap (λ (x : List ℕ). x ++ runs.4) same.reply ∙ ap (λ (x : List ℕ). again.3 ++ x) behind ∙ sym again.8

@@ -1,7 +1,7 @@
 -- What each command does, and what it replies.
-use Rattle.std.specs.Prelude.{◌≡◌, ℕ, ◌<◌, Bool, true, false, is_none, ◌==◌, ◌&&◌, List, [], ◌∷◌, ◌++◌, length, codes, Option, Some, None}
+use Rattle.std.specs.Prelude.{◌≡◌, ℕ, ◌<◌, Bool, true, false, is_none, ◌==◌, ◌&&◌, List, [], ◌∷◌, ◌++◌, All, length, codes, Option, Some, None}
 use Rattle.std.specs.Fmt.{decimal}
-use Rattle.smc_shape.specs.Layout.{Layout}
+use Rattle.smc_shape.specs.Layout.{Layout, width_of}
 use Rattle.smc_trace.specs.Trace.{CallEnd}
 use Rattle.smc_objects.specs.Alone.{CountsObjects, InSection}
 use Rattle.smc_compact.specs.declared.counting.Census.{Census}
@@ -13,9 +13,18 @@ use Rattle.smc_types.specs.Tables.{the_tables}
 use Rattle.smc_types.specs.declared.schema.Schema.{Schema}
 use Rattle.smc_query.specs.Trees as trees
 use Rattle.smc_query.specs.Trees.{CallTree, ItemTree, QueryTree}
-use Rattle.smc_script.specs.Tables.{schema_of}
-use Rattle.smc_script.specs.Trees.{CommandTree, compact, query, stat}
+use Rattle.smc_types.specs.Columns.{columns_width, value_kinds}
+use Rattle.smc_types.specs.Faults.{value_fault}
+use Rattle.smc_types.specs.Rows.{IsValue}
+use Rattle.smc_types.specs.declared.column.FieldType.{FieldType}
+use Rattle.smc_types.specs.declared.row.Value.{Value}
+use Rattle.smc_tbl.specs.TableText.{FitsColumns}
+use Rattle.smc_query.specs.Trees.{Word}
+use Rattle.smc_script.specs.Tables.{column_kind, is_editable, schema_of}
+use Rattle.smc_script.specs.Trees.{CommandTree, add, compact, get, query, remove, set, stat}
 use Rattle.smc_script.specs.declared.script.Place.{Place}
+use Rattle.smc_replies.specs.Books.{Books, object_of}
+use Rattle.smc_replies.specs.Objects.{AddsBy, GetsBy, OnObject, RemovesNamed, SetsBy}
 use Rattle.smc_replies.specs.declared.limits.TheConstants.{COMPACT_TURNS}
 
 -- ---- counting
@@ -90,16 +99,55 @@ is_known (query place tree) = counts_all tree
 is_known (compact place) = true
 is_known _ = false
 
--- the collection of the command lies in the region
-abbrev pub IsInRegion : Layout → CommandTree → Type 0
-IsInRegion shape (stat place) = place.coll < length shape.colls
-IsInRegion shape (query place tree) = place.coll < length shape.colls
-IsInRegion shape (compact place) = place.coll < length shape.colls
-IsInRegion shape _ = Unit {0}
+-- ---- what a command needs
 
--- the command makes these calls, and this is its reply
-abbrev pub RunsCommand : CommandTree → List CallEnd → List ℕ → Type 0
-RunsCommand (stat place) calls text = Counts objects_line place.coll calls text
-RunsCommand (query place tree) calls text = (counts_all tree ≡ true) × Counts count_row place.coll calls text
-RunsCommand (compact place) calls text = PacksTable place calls text
-RunsCommand _ calls text = ⊥
+-- the collection of the place lies in the region
+abbrev pub IsCollOf : Layout → Place → Type 0
+IsCollOf shape place = place.coll < length shape.colls
+
+-- and its objects are as wide as the records of its table
+pub record IsTableOf (shape : Layout) (place : Place) : Type 0 where
+  pub schema : Schema
+  pub is : schema_of the_tables place.table ≡ Some schema
+  pub coll : IsCollOf shape place
+  pub width : columns_width schema.columns ≡ width_of shape place.coll
+
+-- the row is one of the table with this number: a value for each column of its file, within its range or width
+pub record FitsTable (table : ℕ) (row : List Value) : Type 0 where
+  pub schema : Schema
+  pub is : schema_of the_tables table ≡ Some schema
+  pub fits : FitsColumns (value_kinds schema.columns) row
+  pub texts : All IsValue row
+
+-- the value is one of the column of this name, which may be written
+pub record FitsColumn (table : ℕ) (column : Word) (value : Value) : Type 0 where
+  pub kind : FieldType
+  pub is : column_kind the_tables table column ≡ Some kind
+  pub writes : is_editable kind ≡ true
+  pub fits : value_fault kind value ≡ None
+
+-- the command may be run on a region of this shape
+abbrev pub CanRun : Layout → CommandTree → Type 0
+CanRun shape (stat place) = IsCollOf shape place
+CanRun shape (query place tree) = (counts_all tree ≡ true) × IsCollOf shape place
+CanRun shape (compact place) = IsCollOf shape place
+CanRun shape (add place name row) = IsTableOf shape place × FitsTable place.table row
+CanRun shape (get place name) = IsTableOf shape place
+CanRun shape (set place name column value) = IsTableOf shape place × FitsColumn place.table column value
+CanRun shape (remove place name) = IsCollOf shape place
+CanRun shape _ = ⊥
+
+-- ---- what it does
+
+-- the command, with what was known before it and what is known after it, makes these calls, and this is its reply
+abbrev pub RunsCommand : CommandTree → Books → Books → List CallEnd → List ℕ → Type 0
+RunsCommand (stat place) old new calls text = (new ≡ old) × Counts objects_line place.coll calls text
+RunsCommand (query place tree) old new calls text = (new ≡ old) × (counts_all tree ≡ true) × Counts count_row place.coll calls text
+RunsCommand (compact place) old new calls text = (new ≡ old) × PacksTable place calls text
+RunsCommand (add place name row) old new calls text = AddsBy (schema_of the_tables place.table) place name row old new calls text
+RunsCommand (get place name) old new calls text =
+    (new ≡ old) × OnObject (object_of old.names place.coll name) (GetsBy (schema_of the_tables place.table)) calls text
+RunsCommand (set place name column value) old new calls text =
+    (new ≡ old) × OnObject (object_of old.names place.coll name) (SetsBy (schema_of the_tables place.table) column value) calls text
+RunsCommand (remove place name) old new calls text = (new ≡ old) × OnObject (object_of old.names place.coll name) RemovesNamed calls text
+RunsCommand _ old new calls text = ⊥

@@ -1,3 +1,5 @@
+pub mod Books
+pub mod Objects
 pub mod Commands
 pub mod Scripts
 pub mod Laws

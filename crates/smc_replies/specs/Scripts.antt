@@ -3,7 +3,8 @@ use Rattle.std.specs.Prelude.{◌≡◌, ℕ, Bool, false, if◌then◌else◌, 
 use Rattle.smc_shape.specs.Layout.{Layout}
 use Rattle.smc_trace.specs.Trace.{CallEnd}
 use Rattle.smc_script.specs.Trees.{NumberedTree, PartTree, one, group}
-use Rattle.smc_replies.specs.Commands.{IsInRegion, RunsCommand, is_known}
+use Rattle.smc_replies.specs.Books.{Books}
+use Rattle.smc_replies.specs.Commands.{CanRun, RunsCommand, is_known}
 
 -- the line of the first command of these
 abbrev pub first_line : List NumberedTree → ℕ
@@ -26,18 +27,18 @@ abbrev pub unknown_line : List PartTree → Option ℕ
 unknown_line [] = None
 unknown_line (part ∷ later) = if is_known_part part then unknown_line later else Some (line_of part)
 
--- the collections of a part lie in the region
-abbrev pub FitsRegion : Layout → PartTree → Type 0
-FitsRegion shape (one numbered) = IsInRegion shape numbered.command
-FitsRegion shape (group workers) = Unit {0}
+-- the part may be run on a region of this shape
+abbrev pub CanRunPart : Layout → PartTree → Type 0
+CanRunPart shape (one numbered) = CanRun shape numbered.command
+CanRunPart shape (group workers) = ⊥
 
--- a part makes these calls, and this is its reply
-abbrev pub RunsPart : PartTree → List CallEnd → List ℕ → Type 0
-RunsPart (one numbered) calls text = RunsCommand numbered.command calls text
-RunsPart (group workers) calls text = ⊥
+-- a part, with what was known before it and what is known after it, makes these calls, and this is its reply
+abbrev pub RunsPart : PartTree → Books → Books → List CallEnd → List ℕ → Type 0
+RunsPart (one numbered) old new calls text = RunsCommand numbered.command old new calls text
+RunsPart (group workers) old new calls text = ⊥
 
 -- parts that are run one behind another: their calls and their replies in one list
-abbrev pub RunsParts : List PartTree → List CallEnd → List ℕ → Type 0
-RunsParts [] calls text = (calls ≡ []) × (text ≡ [])
-RunsParts (part ∷ later) calls text = (first rest : List CallEnd) × (said behind : List ℕ) × RunsPart part first said × RunsParts later rest behind
-    × (calls ≡ first ++ rest) × (text ≡ said ++ behind)
+abbrev pub RunsParts : List PartTree → Books → Books → List CallEnd → List ℕ → Type 0
+RunsParts [] old new calls text = (new ≡ old) × (calls ≡ []) × (text ≡ [])
+RunsParts (part ∷ later) old new calls text = (middle : Books) × (first rest : List CallEnd) × (said behind : List ℕ) × RunsPart part old middle first said
+    × RunsParts later middle new rest behind × (calls ≡ first ++ rest) × (text ≡ said ++ behind)

@@ -1,17 +1,26 @@
 //! Each function is a theorem over the definitions in `specs`, and does nothing.
+ghost use Rattle.smc_replies.specs.Books.{no_books};
 ghost use Rattle.smc_replies.specs.Laws.{CommandIsOne, OnePartMore, TextIsOne};
 ghost use Rattle.smc_replies.specs.Scripts.{RunsParts};
 ghost use Rattle.smc_replies.specs.Worked.{its_calls, its_text, one_query, their_calls, their_text, two_stats};
 
-/// The calls of a command are read off from the front of a trace, and its reply follows from them.
+use smc_types::laws::a_day_has_one_text;
+
+/// The calls of a command are read off from the front of a trace; its reply, and the names behind it, follow from them and
+/// from the names before it.
 pub fn parts_are_one()
     ensures { CommandIsOne }
-{}
+{
+    // A row is printed in one text.
+    a_day_has_one_text();
+}
 
-/// What parts print follows from the calls that they made.
+/// What parts print follows from the calls that they made, and from the names that were given before.
 pub fn the_text_is_one()
     ensures { TextIsOne }
-{}
+{
+    a_day_has_one_text();
+}
 
 /// Parts are run one behind another.
 pub fn one_part_more()
@@ -20,10 +29,10 @@ pub fn one_part_more()
 
 /// Two commands over two objects print how many objects there are.
 pub fn worked_stats()
-    ensures { RunsParts two_stats their_calls their_text }
+    ensures { RunsParts two_stats no_books no_books their_calls their_text }
 {}
 
 /// A query for their number prints it as a row.
 pub fn worked_query()
-    ensures { RunsParts one_query its_calls its_text }
+    ensures { RunsParts one_query no_books no_books its_calls its_text }
 {}

@@ -18,8 +18,8 @@ use Rattle.smc_script.specs.declared.fault.ScriptFault.TheVariants.{Bad}
 use Rattle.smc_script.specs.declared.fault.ScriptFault.TheVariants as fault
 use Rattle.smc_script.specs.declared.fault.ScriptKind.{ScriptKind}
 use Rattle.smc_script.specs.declared.script.Room.{Room}
-use Rattle.smc_replies.specs.Scripts.{is_known_part, line_of, unknown_line}
-use Rattle.smc_desk.specs.Runs.{MayRun, colls_asked, shape_asked}
+use Rattle.smc_replies.specs.Scripts.{CanRunPart, is_known_part, line_of, unknown_line}
+use Rattle.smc_desk.specs.Runs.{colls_asked, shape_asked}
 use Rattle.smc_run.specs.declared.status.Status.{Status}
 use Rattle.smc_run.specs.declared.status.Status.TheVariants.{Done, BadScript, WriteFault, NoMemory}
 use Rattle.smc_run.specs.Ending.{refused_at}
@@ -38,24 +38,24 @@ no-line : (line : ℕ) → Some line ≡ None → ⊥
 no-line line is = cc
 
 -- a part that is known and placed among the rooms may be run
-part-may : (rooms : List Room) (part : PartTree) → IsPlaced (length rooms) part → is_known_part part ≡ true → MayRun (shape_asked rooms) part
+part-may : (rooms : List Room) (part : PartTree) → IsPlaced (length rooms) part → is_known_part part ≡ true → CanRunPart (shape_asked rooms) part
 part-may rooms (one numbered) placed known = go numbered.command placed known
   where
     go : (c : CommandTree) → IsPlaced (length rooms) (one (record { line = numbered.line; command = c })) → is_known_part (one (record { line = numbered.line; command = c })) ≡ true
-        → MayRun (shape_asked rooms) (one (record { line = numbered.line; command = c }))
-    go (stat place) placed known = (refl, omega (arith, placed, colls-many rooms))
-    go (compact place) placed known = (refl, omega (arith, placed, colls-many rooms))
+        → CanRunPart (shape_asked rooms) (one (record { line = numbered.line; command = c }))
+    go (stat place) placed known = omega (arith, placed, colls-many rooms)
+    go (compact place) placed known = omega (arith, placed, colls-many rooms)
     go (query place tree) placed known = (known, omega (arith, placed, colls-many rooms))
     go _ placed known = absurd (no-test known)
 part-may rooms (group workers) placed known = absurd (no-test known)
 
 -- so may all parts of a script without a command that is not run
-pub all-may : (rooms : List Room) (parts : List PartTree) → AllByRecursion (IsPlaced (length rooms)) parts → unknown_line parts ≡ None → AllByRecursion (MayRun (shape_asked rooms)) parts
+pub all-may : (rooms : List Room) (parts : List PartTree) → AllByRecursion (IsPlaced (length rooms)) parts → unknown_line parts ≡ None → AllByRecursion (CanRunPart (shape_asked rooms)) parts
 all-may rooms [] all none = tt
 all-may rooms (part ∷ later) all none = go (is_known_part part) refl none (λ rest. all-may rooms later all.1 rest)
   where
     go : (known : Bool) → is_known_part part ≡ known → (if known then unknown_line later else Some (line_of part)) ≡ None
-        → (unknown_line later ≡ None → AllByRecursion (MayRun (shape_asked rooms)) later) → AllByRecursion (MayRun (shape_asked rooms)) (part ∷ later)
+        → (unknown_line later ≡ None → AllByRecursion (CanRunPart (shape_asked rooms)) later) → AllByRecursion (CanRunPart (shape_asked rooms)) (part ∷ later)
     go true is none rest = (part-may rooms part all.0 is, rest none)
     go false is none rest = absurd (no-line (line_of part) none)
 

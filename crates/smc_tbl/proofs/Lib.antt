@@ -18,3 +18,4 @@ pub mod RoundTrip
 pub mod LengthLaws
 pub mod WordLaws
 pub mod WordNumbers
+pub mod RowFits

@@ -5,7 +5,8 @@ use Rattle.smc_does.specs.Does.{DoesSome}
 use Rattle.smc_script.specs.declared.script.Part.{Part}
 use Rattle.smc_script.specs.Trees.{PartTree, part_tree}
 use Rattle.smc_desk.specs.declared.alone.RunEnd.{RunEnd}
-use Rattle.smc_desk.specs.Runs.{MayRun, PartEnds, Replies}
+use Rattle.smc_replies.specs.Scripts.{CanRunPart}
+use Rattle.smc_desk.specs.Runs.{PartEnds, Replies, seen}
 use Rattle.smc_desk.proofs.RunLaws.{ends-within, may-next, next-part, ran-more}
 use Rattle.smc_desk.proofs.alone.run_parts.Goals as goal
 
@@ -16,7 +17,7 @@ step parts i item within is = next-part parts i item within ∙ ap (λ (p : Part
 pub run_part-next-requires-clause-may : goal.run_part-next-requires-clause-may
 run_part-next-requires-clause-may g c =
     let shape = c.args.region.now.about.shape in
-    subst (λ (p : Part). MayRun shape (part_tree p)) (sym c.part-item.is) (may-next shape c.args.parts.now c.loop-part.part-index c.part-item.result c.loop-part-test.true c.requires.may)
+    subst (λ (p : Part). CanRunPart shape (part_tree p)) (sym c.part-item.is) (may-next shape c.args.parts.now c.loop-part.part-index c.part-item.result c.loop-part-test.true c.requires.may)
 
 pub returns-in_default : goal.returns-in_default
 returns-in_default g c =
@@ -32,7 +33,7 @@ returns-in_default g c =
     let later = ensures.later in
     record {
       home = ((now.0 ∙ before.0, now.1 ∙ before.1, now.2 ∙ before.2), ensures.home.1);
-      ends = ends-within c.run_part-next.result.1 (map part_tree parts) i (part_tree item) c.args.pass c.loop-part.pass c.run_part-next.result.0
+      ends = ends-within (seen c.args.books.now) c.run_part-next.result.1 (map part_tree parts) i (part_tree item) (seen c.loop-part.books) (seen c.run_part-next.new.books) c.args.pass c.loop-part.pass c.run_part-next.result.0
           (held c.args.out.now) (held c.loop-part.out) (held c.run_part-next.new.out) (step parts i item c.loop-part-test.true c.part-item.is) c.in_default.not-Done ran ensures.ends;
       cause = λ is. let rose = ensures.cause is in omega (arith, rose, faults);
       later = omega (arith, faults, later);
@@ -48,11 +49,13 @@ loop-part-preserved g c =
     let next = c.run_part-next.result.0 in
     let faults = c.loop-part.invariant.faults in
     let later = c.run_part-next.ensures.later in
-    let ends = subst (λ (e : RunEnd). PartEnds e (part_tree item) c.loop-part.pass next (held c.loop-part.out) (held c.run_part-next.new.out)) c.in-Done.is c.run_part-next.ensures.ends in
+    let known = seen c.loop-part.books in
+    let now = seen c.run_part-next.new.books in
+    let ends = subst (λ (e : RunEnd). PartEnds e (part_tree item) known now c.loop-part.pass next (held c.loop-part.out) (held c.run_part-next.new.out)) c.in-Done.is c.run_part-next.ensures.ends in
     record {
-      ran = subst (λ (ps : List PartTree). DoesSome c.args.pass next (λ calls. Replies Appends ps calls (held c.args.out.now) (held c.run_part-next.new.out)))
+      ran = subst (λ (ps : List PartTree). DoesSome c.args.pass next (λ calls. Replies Appends ps (seen c.args.books.now) now calls (held c.args.out.now) (held c.run_part-next.new.out)))
           (sym (step parts i item c.loop-part-test.true c.part-item.is))
-          (ran-more (take i all) (part_tree item) c.args.pass c.loop-part.pass next (held c.args.out.now) (held c.loop-part.out) (held c.run_part-next.new.out) c.loop-part.invariant.ran ends);
+          (ran-more (seen c.args.books.now) (take i all) (part_tree item) known now c.args.pass c.loop-part.pass next (held c.args.out.now) (held c.loop-part.out) (held c.run_part-next.new.out) c.loop-part.invariant.ran ends);
       free = c.run_part-next.ensures.home.1;
       faults = omega (arith, faults, later);
     }

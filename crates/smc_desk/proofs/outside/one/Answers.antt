@@ -1,17 +1,79 @@
-use Rattle.std.proofs.Common.{◌≡◌, true, IfOk, sym, subst}
+use Rattle.std.proofs.Common.{◌≡◌, ℕ, List, true, IfOk, refl, sym, subst}
+use Rattle.smc_trace.specs.Trace.{CallEnd}
+use Rattle.smc_shape.specs.Layout.{Layout}
 use Rattle.smc_does.specs.Does.{DoesSome}
 use Rattle.smc_query.specs.Trees.{query_tree}
+use Rattle.smc_types.specs.Tables.{the_tables}
+use Rattle.smc_script.specs.Tables.{schema_of}
 use Rattle.smc_script.specs.Trees.{command_tree}
 use Rattle.smc_script.specs.declared.command.Command.{Command}
-use Rattle.smc_replies.specs.Commands.{RunsCommand, is_known}
+use Rattle.smc_replies.specs.Books.{Books, object_of}
+use Rattle.smc_replies.specs.Commands.{CanRun, Counts, PacksTable, RunsCommand, count_row, counts_all, objects_line}
+use Rattle.smc_replies.specs.Objects.{GetsBy, OnObject, RemovesNamed, SetsBy}
+use Rattle.smc_desk.specs.Runs.{seen}
 use Rattle.smc_desk.proofs.CountLaws.{counts-run}
+use Rattle.smc_desk.proofs.ObjectLaws.{kept-run}
 use Rattle.smc_desk.proofs.outside.one.Goals as goal
+
+pub returns-in-Stat-clause-done : goal.returns-in-Stat-clause-done
+returns-in-Stat-clause-done c =
+    let known = seen c.args.books.now in
+    let old = c.args.pass in
+    let new = c.stat.result.0 in
+    let reply = c.stat.result.1 in
+    subst (λ (k : Command). IfOk reply (λ text. DoesSome old new (λ calls. RunsCommand (command_tree k) known known calls text))) (sym c.in-Stat.is)
+    (kept-run (λ (calls : List CallEnd) (text : List ℕ). Counts objects_line c.in-Stat.place.coll calls text) known known old new reply refl c.stat.ensures.done)
 
 pub returns-in-Query-clause-done : goal.returns-in-Query-clause-done
 returns-in-Query-clause-done c =
+    let known = seen c.args.books.now in
     let old = c.args.pass in
     let new = c.count.result.0 in
     let reply = c.count.result.1 in
-    let known = subst (λ (k : Command). is_known (command_tree k) ≡ true) c.in-Query.is c.requires.known in
-    subst (λ (k : Command). IfOk reply (λ text. DoesSome old new (λ calls. RunsCommand (command_tree k) calls text))) (sym c.in-Query.is)
-    (counts-run c.in-Query.place (query_tree c.in-Query.query) old new reply known c.count.ensures.done)
+    let tree = query_tree c.in-Query.query in
+    let coll = c.in-Query.place.coll in
+    let can = subst (λ (k : Command). CanRun c.args.region.now.about.shape (command_tree k)) c.in-Query.is c.requires.can in
+    subst (λ (k : Command). IfOk reply (λ text. DoesSome old new (λ calls. RunsCommand (command_tree k) known known calls text))) (sym c.in-Query.is)
+    (kept-run (λ (calls : List CallEnd) (text : List ℕ). (counts_all tree ≡ true) × Counts count_row coll calls text) known known old new reply refl
+    (counts-run coll tree old new reply can.0 c.count.ensures.done))
+
+pub returns-in-Compact-clause-done : goal.returns-in-Compact-clause-done
+returns-in-Compact-clause-done c =
+    let known = seen c.args.books.now in
+    let old = c.args.pass in
+    let new = c.compact.result.0 in
+    let reply = c.compact.result.1 in
+    subst (λ (k : Command). IfOk reply (λ text. DoesSome old new (λ calls. RunsCommand (command_tree k) known known calls text))) (sym c.in-Compact.is)
+    (kept-run (λ (calls : List CallEnd) (text : List ℕ). PacksTable c.in-Compact.place calls text) known known old new reply refl c.compact.ensures.done)
+
+pub returns-in-Get-clause-done : goal.returns-in-Get-clause-done
+returns-in-Get-clause-done c =
+    let known = seen c.args.books.now in
+    let old = c.args.pass in
+    let new = c.get.result.0 in
+    let reply = c.get.result.1 in
+    let place = c.in-Get.place in
+    subst (λ (k : Command). IfOk reply (λ text. DoesSome old new (λ calls. RunsCommand (command_tree k) known known calls text))) (sym c.in-Get.is)
+    (kept-run (λ (calls : List CallEnd) (text : List ℕ). OnObject (object_of known.names place.coll c.in-Get.name) (GetsBy (schema_of the_tables place.table)) calls text)
+    known known old new reply refl c.get.ensures.done)
+
+pub returns-in-Set-clause-done : goal.returns-in-Set-clause-done
+returns-in-Set-clause-done c =
+    let known = seen c.args.books.now in
+    let old = c.args.pass in
+    let new = c.set.result.0 in
+    let reply = c.set.result.1 in
+    let place = c.in-Set.place in
+    subst (λ (k : Command). IfOk reply (λ text. DoesSome old new (λ calls. RunsCommand (command_tree k) known known calls text))) (sym c.in-Set.is)
+    (kept-run (λ (calls : List CallEnd) (text : List ℕ). OnObject (object_of known.names place.coll c.in-Set.name) (SetsBy (schema_of the_tables place.table) c.in-Set.column c.in-Set.value) calls text)
+    known known old new reply refl c.set.ensures.done)
+
+pub returns-in-Remove-clause-done : goal.returns-in-Remove-clause-done
+returns-in-Remove-clause-done c =
+    let known = seen c.args.books.now in
+    let old = c.args.pass in
+    let new = c.remove.result.0 in
+    let reply = c.remove.result.1 in
+    let place = c.in-Remove.place in
+    subst (λ (k : Command). IfOk reply (λ text. DoesSome old new (λ calls. RunsCommand (command_tree k) known known calls text))) (sym c.in-Remove.is)
+    (kept-run (λ (calls : List CallEnd) (text : List ℕ). OnObject (object_of known.names place.coll c.in-Remove.name) RemovesNamed calls text) known known old new reply refl c.remove.ensures.done)

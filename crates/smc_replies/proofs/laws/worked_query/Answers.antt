@@ -11,7 +11,9 @@ returns c = (
   _,
   _,
   _,
+  _,
   (
+    refl,
     refl,
     record {
       count = 2;
@@ -19,7 +21,7 @@ returns c = (
       reply = refl;
     },
   ),
-  (refl, refl),
+  (refl, refl, refl),
   refl,
   refl,
 )

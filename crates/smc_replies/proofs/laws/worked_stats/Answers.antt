@@ -11,12 +11,26 @@ returns c = (
   _,
   _,
   _,
-  record {
-    count = 2;
-    counts = record { epoch = 2; inner = _; holds = record { scan = 0; visits = object_at 5 0 ∷ object_at 7 3 ∷ []; counted = refl; made = refl }; made = refl };
-    reply = refl;
-  },
-  (_, _, _, _, record { count = 0; counts = record { epoch = 2; inner = _; holds = record { scan = 1; visits = []; counted = refl; made = refl }; made = refl }; reply = refl }, (refl, refl), refl, refl),
+  _,
+  (
+    refl,
+    record {
+      count = 2;
+      counts = record { epoch = 2; inner = _; holds = record { scan = 0; visits = object_at 5 0 ∷ object_at 7 3 ∷ []; counted = refl; made = refl }; made = refl };
+      reply = refl;
+    },
+  ),
+  (
+    _,
+    _,
+    _,
+    _,
+    _,
+    (refl, record { count = 0; counts = record { epoch = 2; inner = _; holds = record { scan = 1; visits = []; counted = refl; made = refl }; made = refl }; reply = refl }),
+    (refl, refl, refl),
+    refl,
+    refl,
+  ),
   refl,
   refl,
 )
