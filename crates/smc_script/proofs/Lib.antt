@@ -1,4 +1,6 @@
 mod SaysLaws
+mod RowLaws
+mod NameLaws
 mod StateLaws
 mod ScriptLaws
 mod SoundLaws

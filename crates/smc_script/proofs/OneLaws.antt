@@ -1,62 +1,109 @@
 -- A text gives one outcome at most.
-use Rattle.std.proofs.Common.{◌≡◌, ◌≤◌, arith, ℕ, ◌+◌, List, [], ◌∷◌, ◌++◌, inl, inr, length, codes, Bool, true, false, Option, None, Some, Ok, Err, refl, sym, ap, ◌∙◌, subst}
+use Rattle.std.proofs.Common.{◌≡◌, ◌≤◌, arith, ℕ, ◌+◌, List, [], ◌∷◌, ◌++◌, inl, inr, length, Bool, true, false, Option, None, Some, Ok, Err, refl, sym, ap, ◌∙◌, subst}
 use Rattle.std.proofs.lemmas.List.{length-append}
 use Rattle.std.proofs.lemmas.List.Elements.{All-head, All-tail}
 use Rattle.std.specs.declared.result.Result.{Result}
 use Rattle.std.specs.List.{All}
-use Rattle.std.specs.Option.{unwrap_or}
 use Rattle.std.specs.Prelude.{IsTrue, not}
 use Rattle.smc_lang.specs.Laws.{IsOneThing, Thing, read}
-use Rattle.smc_lang.specs.Texts.{ReadsText}
 use Rattle.smc_lines.specs.Ahead.{Counts, IsPassedOver, is_quiet}
 use Rattle.smc_lines.specs.Lines.{lines, IsShort, IsWithin}
 use Rattle.smc_lines.specs.Reading.{PassesLimit}
-use Rattle.smc_lines.specs.Words.{words}
 use Rattle.smc_lines.specs.declared.fault.LinesFault.{LinesFault}
 use Rattle.smc_lines.specs.declared.fault.LinesFault.TheVariants as limit
 use Rattle.smc_query.specs.Trees.{Word, QueryTree, a_query, query_text}
+use Rattle.smc_tbl.specs.Alone.{SpellsAlone}
+use Rattle.smc_tbl.specs.TableText.{Gives, GivesOne as GivesOneRow}
+use Rattle.smc_tbl.specs.declared.fault.TblFault.{TblFault}
 use Rattle.smc_types.specs.declared.catalog.Catalog.{Catalog}
+use Rattle.smc_types.specs.declared.column.FieldType.{FieldType}
+use Rattle.smc_types.specs.declared.row.Value.{Value}
+use Rattle.smc_types.specs.declared.schema.Schema.{Schema}
 use Rattle.smc_script.specs.Faults.{LineGives, passed_over, no_text, no_command, command, said_fault, taken}
 use Rattle.smc_script.specs.Laws.{GivesOne}
-use Rattle.smc_script.specs.Says.{LineSays, SaidTree, SaysQuery, query, words_said}
+use Rattle.smc_script.specs.Names.{Given}
+use Rattle.smc_script.specs.Says.{LineSays, VerbSays, SaidTree, SaysAdd, SaysQuery, SaysSet, SaysValue, SpellsRowOf, add, kind_named, query, set}
 use Rattle.smc_script.specs.Scripts.{GoesOn, LinesGive, Outcome, limit_fault}
 use Rattle.smc_script.specs.States.{ReadState}
 use Rattle.smc_script.specs.declared.fault.ScriptKind.{ScriptKind}
-use Rattle.smc_script.proofs.SaysLaws.{later, text-one}
+use Rattle.smc_script.specs.declared.verb.Verb.{Verb}
+use Rattle.smc_script.specs.declared.verb.Verb.TheVariants as verb
+use Rattle.smc_script.proofs.RowLaws.{add-at, set-at}
+use Rattle.smc_script.proofs.SaysLaws.{behind-says, later, some-one}
 
 -- ---- what a line says
+
+-- the laws of what lines are read by: queries, rows, and fields
+pub record Readings : Type 0 where
+  pub thing : IsOneThing
+  pub row : (schema : Schema) (line : List ℕ) → GivesOneRow schema line
+  pub field : (kind : FieldType) (text : List ℕ) (a b : Value) → SpellsAlone kind text a → SpellsAlone kind text b → a ≡ b
 
 -- the query that a thing is, where it is one
 abbrev tree_in : Thing → QueryTree → QueryTree
 tree_in (read (a_query tree)) other = tree
 tree_in thing other = other
 
--- a text is read as one query
-reads-one : IsOneThing → (text : List ℕ) (one other : QueryTree) → ReadsText query_text text (a_query one) → ReadsText query_text text (a_query other) → one ≡ other
-reads-one thing text one other is same = ap (λ (t : Thing). tree_in t one) (thing query_text text (read (a_query one)) (read (a_query other)) is same)
+-- a text is one query
+query-one : IsOneThing → (text : List ℕ) (one other : QueryTree) → SaysQuery text one → SaysQuery text other → one ≡ other
+query-one thing text one other (short, reads) (short', reads') =
+    ap (λ (t : Thing). tree_in t one) (thing query_text text (read (a_query one)) (read (a_query other)) reads reads')
 
--- a line is one query
-query-one : IsOneThing → (line : List ℕ) (one other : QueryTree) → SaysQuery line one → SaysQuery line other → one ≡ other
-query-one thing line one other (text, is, short, reads) (text', is', short', reads') =
-    reads-one thing text one other reads (subst (λ (t : List ℕ). ReadsText query_text t (a_query other)) (text-one line text' text is' is) reads')
+-- the row of a reading, where it has one
+abbrev row_in : Result (List Value) TblFault → List Value → List Value
+row_in (Ok row) other = row
+row_in (Err fault) other = other
 
--- the words of a query are no other command
-query-words : (catalog : Catalog) (line text : List ℕ) (said : SaidTree) → words line ≡ codes "query" ∷ words text → ¬ (words_said catalog (words line) ≡ Some said)
-query-words catalog line text said is words' =
-    let no : words_said catalog (words line) ≡ None = ap (words_said catalog) is in
-    absurd cc
+-- a text is one row of a table
+row-one : ((schema : Schema) (line : List ℕ) → GivesOneRow schema line) → (catalog : Catalog) (table : ℕ) (text : List ℕ) (one other : List Value)
+    → SpellsRowOf catalog table text one → SpellsRowOf catalog table text other → one ≡ other
+row-one law catalog table text one other (schema, is, spells) (schema', is', spells') =
+    let (reading, gives, only) = law schema text in
+    let here : Gives schema text (Ok other) = subst (λ (s : Schema). Gives s text (Ok other)) (some-one schema' schema (sym is' ∙ is)) spells' in
+    ap (λ (r : Result (List Value) TblFault). row_in r one) (only (Ok one) spells ∙ sym (only (Ok other) here))
 
--- what is there is one
-some-one : {A : Type 0} (one other : A) → Some one ≡ Some other → one ≡ other
-some-one {A} one other is = ap (λ (o : Option A). unwrap_or o one) is
+-- an addition is one
+add-one : Readings → (catalog : Catalog) (text : List ℕ) (one other : SaidTree) → SaysAdd catalog text one → SaysAdd catalog text other → one ≡ other
+add-one laws catalog text one other a says =
+    let b = add-at catalog text a.table a.name a.row_text other a.cut says in
+    let number : b.number ≡ a.number = some-one b.number a.number (sym b.head ∙ a.head) in
+    let row = row-one laws.row catalog a.number a.row_text b.row a.row (subst (λ (n : ℕ). SpellsRowOf catalog n a.row_text b.row) number b.spells) a.spells in
+    a.says ∙ sym (b.says ∙ ap (λ (n : ℕ). add n a.name b.row) number ∙ ap (λ (r : List Value). add a.number a.name r) row)
+
+-- a text is one value of a column
+value-one : Readings → (kind : Option FieldType) (text : List ℕ) (one other : Option Value) → SaysValue kind text one → SaysValue kind text other → one ≡ other
+value-one laws None text one other is is' = is ∙ sym is'
+value-one laws (Some kind) text (Some one) (Some other) says says' = ap (λ (v : Value). Some v) (laws.field kind text one other says says')
+value-one laws (Some kind) text None other says says' = absurd says
+value-one laws (Some kind) text (Some one) None says says' = absurd says'
+
+-- a setting is one
+set-one : Readings → (catalog : Catalog) (names : List Given) (text : List ℕ) (one other : SaidTree) → SaysSet catalog names text one → SaysSet catalog names text other → one ≡ other
+set-one laws catalog names text one other a says =
+    let b = set-at catalog names text a.name a.column a.value_text other a.cut says in
+    a.says ∙ sym (b.says ∙ ap (λ (v : Option Value). set a.name a.column v)
+    (value-one laws (kind_named catalog names a.name a.column) a.value_text b.value a.value b.spells a.spells))
+
+-- the text behind the word of a command says one thing
+verb-one : Readings → (catalog : Catalog) (names : List Given) (command : Verb) (text : List ℕ) (one other : SaidTree) → VerbSays catalog names command text one
+    → VerbSays catalog names command text other → one ≡ other
+verb-one laws catalog names verb.Room text one other is is' = some-one one other (sym is ∙ is')
+verb-one laws catalog names verb.Load text one other is is' = some-one one other (sym is ∙ is')
+verb-one laws catalog names verb.Add text one other is is' = add-one laws catalog text one other is is'
+verb-one laws catalog names verb.Get text one other is is' = some-one one other (sym is ∙ is')
+verb-one laws catalog names verb.Set text one other is is' = set-one laws catalog names text one other is is'
+verb-one laws catalog names verb.Remove text one other is is' = some-one one other (sym is ∙ is')
+verb-one laws catalog names verb.Query text one other (tree, is, says) (tree', is', says') =
+    is ∙ ap (λ (t : QueryTree). query t) (query-one laws.thing text tree tree' says says') ∙ sym is'
+verb-one laws catalog names verb.Compact text one other is is' = some-one one other (sym is ∙ is')
+verb-one laws catalog names verb.Stat text one other is is' = some-one one other (sym is ∙ is')
+verb-one laws catalog names verb.Drop text one other is is' = some-one one other (sym is ∙ is')
 
 -- a line says one thing
-says-one : IsOneThing → (catalog : Catalog) (line : List ℕ) (one other : SaidTree) → LineSays catalog line one → LineSays catalog line other → one ≡ other
-says-one thing catalog line one other (inl (tree, is, says)) (inl (tree', is', says')) =
-    is ∙ ap (λ (t : QueryTree). query t) (query-one thing line tree tree' says says') ∙ sym is'
-says-one thing catalog line one other (inl (tree, is, (text, behind, short, reads))) (inr words') = absurd (query-words catalog line text other behind words')
-says-one thing catalog line one other (inr words') (inl (tree, is, (text, behind, short, reads))) = absurd (query-words catalog line text one behind words')
-says-one thing catalog line one other (inr is) (inr is') = some-one one other (sym is ∙ is')
+says-one : Readings → (catalog : Catalog) (names : List Given) (line : List ℕ) (one other : SaidTree) → LineSays catalog names line one → LineSays catalog names line other → one ≡ other
+says-one laws catalog names line one other says says' =
+    verb-one laws catalog names says.command says.text one other says.says
+    (behind-says catalog names line says.word says.text says.command other says.cut says.is says')
 
 -- ---- what lines give
 
@@ -70,37 +117,37 @@ passed-counts : (line : List ℕ) → IsPassedOver line → ¬ Counts line
 passed-counts line passed counts = not-both (is_quiet line) (passed.1) (counts.1)
 
 -- a line gives one thing
-given-one : IsOneThing → (catalog : Catalog) (folds : List Word) (state : ReadState) (number : ℕ) (line : List ℕ) (one other : Result ReadState ScriptKind)
+given-one : Readings → (catalog : Catalog) (folds : List Word) (state : ReadState) (number : ℕ) (line : List ℕ) (one other : Result ReadState ScriptKind)
     → LineGives catalog folds state number line one → LineGives catalog folds state number line other → one ≡ other
-given-one thing catalog folds state number line one other (passed_over quiet is) (passed_over quiet' is') = is ∙ sym is'
-given-one thing catalog folds state number line one other (passed_over quiet is) (no_text none is') = absurd (none (quiet.0))
-given-one thing catalog folds state number line one other (passed_over quiet is) (no_command counts none is') = absurd (passed-counts line quiet counts)
-given-one thing catalog folds state number line one other (passed_over quiet is) (command said counts says is') = absurd (passed-counts line quiet counts)
-given-one thing catalog folds state number line one other (no_text none is) (passed_over quiet is') = absurd (none (quiet.0))
-given-one thing catalog folds state number line one other (no_text none is) (no_text none' is') = is ∙ sym is'
-given-one thing catalog folds state number line one other (no_text none is) (no_command counts none' is') = absurd (none (counts.0))
-given-one thing catalog folds state number line one other (no_text none is) (command said counts says is') = absurd (none (counts.0))
-given-one thing catalog folds state number line one other (no_command counts none is) (passed_over quiet is') = absurd (passed-counts line quiet counts)
-given-one thing catalog folds state number line one other (no_command counts none is) (no_text none' is') = absurd (none' (counts.0))
-given-one thing catalog folds state number line one other (no_command counts none is) (no_command counts' none' is') = is ∙ sym is'
-given-one thing catalog folds state number line one other (no_command counts none is) (command said counts' says is') = absurd (none said says)
-given-one thing catalog folds state number line one other (command said counts says is) (passed_over quiet is') = absurd (passed-counts line quiet counts)
-given-one thing catalog folds state number line one other (command said counts says is) (no_text none is') = absurd (none (counts.0))
-given-one thing catalog folds state number line one other (command said counts says is) (no_command counts' none is') = absurd (none said says)
-given-one thing catalog folds state number line one other (command said counts says is) (command said' counts' says' is') =
-    is ∙ ap (λ (s : SaidTree). taken catalog state number s (said_fault catalog folds state s)) (says-one thing catalog line said said' says says') ∙ sym is'
+given-one laws catalog folds state number line one other (passed_over quiet is) (passed_over quiet' is') = is ∙ sym is'
+given-one laws catalog folds state number line one other (passed_over quiet is) (no_text none is') = absurd (none (quiet.0))
+given-one laws catalog folds state number line one other (passed_over quiet is) (no_command counts none is') = absurd (passed-counts line quiet counts)
+given-one laws catalog folds state number line one other (passed_over quiet is) (command said counts says is') = absurd (passed-counts line quiet counts)
+given-one laws catalog folds state number line one other (no_text none is) (passed_over quiet is') = absurd (none (quiet.0))
+given-one laws catalog folds state number line one other (no_text none is) (no_text none' is') = is ∙ sym is'
+given-one laws catalog folds state number line one other (no_text none is) (no_command counts none' is') = absurd (none (counts.0))
+given-one laws catalog folds state number line one other (no_text none is) (command said counts says is') = absurd (none (counts.0))
+given-one laws catalog folds state number line one other (no_command counts none is) (passed_over quiet is') = absurd (passed-counts line quiet counts)
+given-one laws catalog folds state number line one other (no_command counts none is) (no_text none' is') = absurd (none' (counts.0))
+given-one laws catalog folds state number line one other (no_command counts none is) (no_command counts' none' is') = is ∙ sym is'
+given-one laws catalog folds state number line one other (no_command counts none is) (command said counts' says is') = absurd (none said says)
+given-one laws catalog folds state number line one other (command said counts says is) (passed_over quiet is') = absurd (passed-counts line quiet counts)
+given-one laws catalog folds state number line one other (command said counts says is) (no_text none is') = absurd (none (counts.0))
+given-one laws catalog folds state number line one other (command said counts says is) (no_command counts' none is') = absurd (none said says)
+given-one laws catalog folds state number line one other (command said counts says is) (command said' counts' says' is') =
+    is ∙ ap (λ (s : SaidTree). taken catalog state number s (said_fault catalog folds state s)) (says-one laws catalog state.names line said said' says says') ∙ sym is'
 
 -- lines give one outcome
-lines-one : IsOneThing → (catalog : Catalog) (folds : List Word) (lines : List (List ℕ)) (state : ReadState) (number : ℕ) (one other : Outcome)
+lines-one : Readings → (catalog : Catalog) (folds : List Word) (lines : List (List ℕ)) (state : ReadState) (number : ℕ) (one other : Outcome)
     → LinesGive catalog folds state number lines one → LinesGive catalog folds state number lines other → one ≡ other
-lines-one thing catalog folds [] state number one other is is' = is ∙ sym is'
-lines-one thing catalog folds (line ∷ lines) state number one other (Ok next, gives, rest) (given, gives', rest') =
-    lines-one thing catalog folds lines next (number + 1) one other rest
+lines-one laws catalog folds [] state number one other is is' = is ∙ sym is'
+lines-one laws catalog folds (line ∷ lines) state number one other (Ok next, gives, rest) (given, gives', rest') =
+    lines-one laws catalog folds lines next (number + 1) one other rest
     (subst (λ (g : Result ReadState ScriptKind). GoesOn g (number + 1) other (λ later'. LinesGive catalog folds later' (number + 1) lines other))
-    (given-one thing catalog folds state (number + 1) line given (Ok next) gives' gives) rest')
-lines-one thing catalog folds (line ∷ lines) state number one other (Err kind, gives, is) (given, gives', rest') =
+    (given-one laws catalog folds state (number + 1) line given (Ok next) gives' gives) rest')
+lines-one laws catalog folds (line ∷ lines) state number one other (Err kind, gives, is) (given, gives', rest') =
     is ∙ sym (subst (λ (g : Result ReadState ScriptKind). GoesOn g (number + 1) other (λ later'. LinesGive catalog folds later' (number + 1) lines other))
-    (given-one thing catalog folds state (number + 1) line given (Err kind) gives' gives) rest')
+    (given-one laws catalog folds state (number + 1) line given (Err kind) gives' gives) rest')
 
 -- ---- the limits of a text
 
@@ -157,10 +204,10 @@ within-limit text limit.TooMany within at =
     absurd (omega arith)
 
 -- a text gives one outcome at most
-pub gives-one : IsOneThing → GivesOne
-gives-one thing catalog folds text one other (inl (fault, past, is)) (inl (fault', past', is')) =
+pub gives-one : Readings → GivesOne
+gives-one laws catalog folds text one other (inl (fault, past, is)) (inl (fault', past', is')) =
     is ∙ ap (λ (f : LinesFault). Err (limit_fault f)) (limit-one text fault fault' past past') ∙ sym is'
-gives-one thing catalog folds text one other (inl (fault, past, is)) (inr (within, gives)) = absurd (within-limit text fault within past)
-gives-one thing catalog folds text one other (inr (within, gives)) (inl (fault, past, is)) = absurd (within-limit text fault within past)
-gives-one thing catalog folds text one other (inr (within, gives)) (inr (within', gives')) =
-    lines-one thing catalog folds (lines text) _ 0 one other gives gives'
+gives-one laws catalog folds text one other (inl (fault, past, is)) (inr (within, gives)) = absurd (within-limit text fault within past)
+gives-one laws catalog folds text one other (inr (within, gives)) (inl (fault, past, is)) = absurd (within-limit text fault within past)
+gives-one laws catalog folds text one other (inr (within, gives)) (inr (within', gives')) =
+    lines-one laws catalog folds (lines text) _ 0 one other gives gives'

@@ -94,12 +94,12 @@ line-taken catalog folds state later before behind next outcome (found, counts, 
 
 -- what a line gives that counts and says nothing
 pub nothing-given : (catalog : Catalog) (folds : List Word) (state next : ReadState) (number : ℕ) (line : List ℕ) → Counts line
-    → ((said : SaidTree) → ¬ LineSays catalog line said) → LineGives catalog folds state number line (line_answer (Some Grammar) next)
+    → ((said : SaidTree) → ¬ LineSays catalog state.names line said) → LineGives catalog folds state number line (line_answer (Some Grammar) next)
 nothing-given catalog folds state next number line counts none = no_command counts none refl
 
 -- what a line gives that says this
 pub said-given : {F : Type 0} (catalog : Catalog) (folds : List Word) (state next : ReadState) (number : ℕ) (line : List ℕ) (said : SaidTree)
-    (answer : Result (Option ScriptKind) F) → Counts line → LineSays catalog line said
+    (answer : Result (Option ScriptKind) F) → Counts line → LineSays catalog state.names line said
     → IfOk answer (λ kind. line_answer kind next ≡ taken catalog state number said (said_fault catalog folds state said))
     → IfOk answer (λ kind. LineGives catalog folds state number line (line_answer kind next))
 said-given catalog folds state next number line said (Ok kind) counts says is = command said counts says is

@@ -1,14 +1,13 @@
 -- Each text gives an outcome.
-use Rattle.std.proofs.Common.{◌≡◌, ◌≢◌, ◌≤◌, ◌<◌, arith, ℕ, zero, suc, ◌+◌, List, [], ◌∷◌, ◌++◌, ◌⊎◌, inl, inr, length, codes, Bool, true, false, Option, None, Some, Ok, Err, refl, sym, ap, ◌∙◌, subst}
+use Rattle.std.proofs.Common.{◌≡◌, ◌≢◌, ◌≤◌, ◌<◌, arith, ℕ, zero, suc, ◌+◌, List, [], ◌∷◌, ◌++◌, ◌⊎◌, inl, inr, length, Bool, true, false, Option, None, Some, Ok, Err, refl, sym, ap, ◌∙◌, subst}
 use Rattle.std.proofs.lemmas.Bool.{leb-false, leb-true}
 use Rattle.std.proofs.lemmas.List.{append-nil, append_assoc, length-append}
 use Rattle.std.proofs.lemmas.List.Elements.{All-append, All-cons, All-from_recursion, All-nil, recursion_from_All}
-use Rattle.std.proofs.lemmas.Slice.Eq.{bytes_eq-Decides}
 use Rattle.std.proofs.lemmas.Str.{IsUtf8-from_is_utf8, is_utf8-from_IsUtf8}
 use Rattle.std.specs.declared.result.Result.{Result}
 use Rattle.std.specs.List.{All, AllByRecursion, onto_first}
 use Rattle.std.specs.Prelude.{if◌then◌else◌, nat_le, not, ◌==◌}
-use Rattle.std.specs.Str.{bytes_eq, is_utf8}
+use Rattle.std.specs.Str.{is_utf8}
 use Rattle.smc_lang.specs.Laws.{IsOneThing, IsSomething, IsThing, Thing, read, wrong, deep}
 use Rattle.smc_lang.specs.Texts.{ReadsText}
 use Rattle.smc_lang.specs.declared.limits.TheConstants.{MAX_TEXT}
@@ -18,17 +17,28 @@ use Rattle.smc_lines.specs.Words.{words}
 use Rattle.smc_lines.specs.declared.fault.LinesFault.TheVariants as limit
 use Rattle.smc_lines.specs.declared.limits.TheConstants.{MAX_LINE, MAX_LINES, SPACE}
 use Rattle.smc_query.specs.Trees.{Word, QueryTree, a_query, a_cond, an_edit, query_text}
+use Rattle.smc_tbl.specs.Alone.{SpellsAlone}
+use Rattle.smc_tbl.specs.TableText.{Gives, GivesOne as GivesOneRow}
+use Rattle.smc_tbl.specs.declared.fault.TblFault.{TblFault}
 use Rattle.smc_types.specs.declared.catalog.Catalog.{Catalog}
+use Rattle.smc_types.specs.declared.column.FieldType.{FieldType}
+use Rattle.smc_types.specs.declared.row.Value.{Value}
+use Rattle.smc_types.specs.declared.schema.Schema.{Schema}
 use Rattle.smc_script.specs.Faults.{LineGives, passed_over, no_text, no_command, command, said_fault, taken}
 use Rattle.smc_script.specs.Laws.{GivesSome, HasRefused, SpellsSome}
-use Rattle.smc_script.specs.Says.{LineSays, SaidTree, SaysQuery, query, words_said}
+use Rattle.smc_script.specs.Names.{Given}
+use Rattle.smc_script.specs.Says.{LineSays, VerbSays, SaidTree, QuerySays, SaysAdd, SaysQuery, SaysSet, SaysValue, SpellsRowOf, add, get, remove, set, query, compact, stat, drop_said, is_set, kind_named, load_said, name_said, room_said, table_added, table_said, verb_of}
 use Rattle.smc_script.specs.Scripts.{IsPastLimit, LinesGive}
 use Rattle.smc_script.specs.States.{ReadState, script_of, start}
 use Rattle.smc_script.specs.Trees.{ScriptTree}
 use Rattle.smc_script.specs.declared.fault.ScriptFault.TheVariants.{Bad}
 use Rattle.smc_script.specs.declared.fault.ScriptKind.{ScriptKind}
 use Rattle.smc_script.specs.declared.fault.ScriptKind.TheVariants.{Grammar, TooLong, TooMany}
-use Rattle.smc_script.proofs.SaysLaws.{none-behind, text-one}
+use Rattle.smc_script.specs.Tables.{schema_of}
+use Rattle.smc_script.specs.declared.verb.Verb.{Verb}
+use Rattle.smc_script.specs.declared.verb.Verb.TheVariants as verb
+use Rattle.smc_script.proofs.RowLaws.{no-cut, no-head, no-row, no-table, no-value, no-words, value-read}
+use Rattle.smc_script.proofs.SaysLaws.{alone-nothing, behind-says, later, no-verb, some-one, two-alone}
 
 -- it holds, or it doesn't
 abbrev Known : Type 0 → Type 0
@@ -93,72 +103,174 @@ query-by one text (read (an_edit value filter)) is =
 query-by one text (wrong at) is = inr (λ query'. let no = one query_text text (wrong at) (read (a_query (query'.0))) is (query'.1) in absurd cc)
 query-by one text (deep at) is = inr (λ query'. let no = one query_text text (deep at) (read (a_query (query'.0))) is (query'.1) in absurd cc)
 
--- the line is a query command
-abbrev IsQueryLine : List ℕ → Type 0
-IsQueryLine line = (tree : QueryTree) × SaysQuery line tree
+-- the text is a query within the limit
+abbrev IsShortQuery : List ℕ → Type 0
+IsShortQuery text = (tree : QueryTree) × SaysQuery text tree
 
--- the first of these words
-abbrev first_word : List (List ℕ) → List ℕ
-first_word [] = []
-first_word (word ∷ words') = word
+-- whether a text is a query within the limit, by its length
+short-known : (text : List ℕ) (short : Bool) → nat_le (length text) MAX_TEXT ≡ short → Known (IsQuery text) → Known (IsShortQuery text)
+short-known text true small (inl (tree, reads)) = inl (tree, (leb-true (length text) MAX_TEXT small, reads))
+short-known text true small (inr none) = inr (λ says. none (says.0, says.1.1))
+short-known text false large query' = inr (λ says. let long = leb-false (length text) MAX_TEXT large in let short' = says.1.0 in absurd (omega arith))
 
--- whether a line with this text behind `query` is a query command, by the length of the text
-short-known : (line text : List ℕ) (short : Bool) → nat_le (length text) MAX_TEXT ≡ short → words line ≡ codes "query" ∷ words text → Known (IsQuery text) → Known (IsQueryLine line)
-short-known line text true small is (inl (tree, reads)) = inl (tree, (text, is, leb-true (length text) MAX_TEXT small, reads))
-short-known line text true small is (inr none) = inr (λ says. no-query line text is none says)
+-- the laws of what lines are read by: queries, rows, and fields
+pub record Readings : Type 0 where
+  pub one : IsOneThing
+  pub some : IsSomething
+  pub row : (schema : Schema) (line : List ℕ) → GivesOneRow schema line
+  pub field : (kind : FieldType) (text : List ℕ) → ((value : Value) × SpellsAlone kind text value) ⊎ ((value : Value) → ¬ SpellsAlone kind text value)
+
+-- this holds of one thing that is said, or of nothing
+abbrev SaidOrNone : (SaidTree → Type 0) → Type 0
+SaidOrNone says = ((said : SaidTree) × says said) ⊎ ((said : SaidTree) → ¬ says said)
+
+-- what a function of the words says
+found-known : (found : Option SaidTree) → SaidOrNone (λ said. found ≡ Some said)
+found-known (Some said) = inl (said, refl)
+found-known None = inr (λ said is. let no : None ≡ Some said = is in absurd cc)
+
+-- ---- rows and values
+
+-- a text is a row of the table, or not
+abbrev IsRow : Catalog → ℕ → List ℕ → Type 0
+IsRow catalog table text = (row : List Value) × SpellsRowOf catalog table text row
+
+row-fault : (row : List Value) (fault : TblFault) → Ok row ≡ Err fault → ⊥
+row-fault row fault is = cc
+
+row-reading : (catalog : Catalog) (table : ℕ) (text : List ℕ) (schema : Schema) → schema_of catalog table ≡ Some schema → GivesOneRow schema text → Known (IsRow catalog table text)
+row-reading catalog table text schema is (Ok row, gives, only) = inl (row, (schema, is, gives))
+row-reading catalog table text schema is (Err fault, gives, only) =
+    inr (λ row'. let same : Gives schema text (Ok (row'.0)) =
+    subst (λ (s : Schema). Gives s text (Ok (row'.0))) (some-one (row'.1.0) schema (sym (row'.1.1) ∙ is)) (row'.1.2) in
+    row-fault (row'.0) fault (only (Ok (row'.0)) same))
+
+row-known : Readings → (catalog : Catalog) (table : ℕ) (text : List ℕ) (found : Option Schema) → schema_of catalog table ≡ found → Known (IsRow catalog table text)
+row-known laws catalog table text (Some schema) is = row-reading catalog table text schema is (laws.row schema text)
+row-known laws catalog table text None is = inr (λ row'. let no : None ≡ Some (row'.1.0) = sym is ∙ row'.1.1 in absurd cc)
+
+-- two words and a text behind them
+abbrev HasTwo : List ℕ → Type 0
+HasTwo text = (first second behind : List ℕ) × (words text ≡ first ∷ second ∷ words behind)
+
+-- whether two words and a text stand behind the first word
+two-behind : (text first behind : List ℕ) → words text ≡ first ∷ words behind → HasBehind behind ⊎ IsAlone behind → Known (HasTwo text)
+two-behind text first behind is (inl (second, rest, is')) = inl (first, second, rest, is ∙ ap (λ (w : List Word). first ∷ w) is')
+two-behind text first behind is (inr (second, is')) = inr (λ two. two-alone text behind first second is is' two.0 two.1 two.2 two.3)
+
+two-known : (text : List ℕ) → HasBehind text ⊎ IsAlone text → Known (HasTwo text)
+two-known text (inl (first, behind, is)) = two-behind text first behind is (line-cut behind)
+two-known text (inr (first, is)) = inr (λ two. no-second two)
   where
-    no-query : (line text : List ℕ) → words line ≡ codes "query" ∷ words text → ¬ IsQuery text → ¬ IsQueryLine line
-    no-query line text is none (tree, (other, is', short, reads)) = none (tree, subst (λ (t : List ℕ). ReadsText query_text t (a_query tree)) (text-one line other text is' is) reads)
-short-known line text false large is query' = inr (λ says. too-long line text is (leb-false (length text) MAX_TEXT large) says)
-  where
-    too-long : (line text : List ℕ) → words line ≡ codes "query" ∷ words text → MAX_TEXT < length text → ¬ IsQueryLine line
-    too-long line text is long (tree, (other, is', short, reads)) =
-        let short' : length text ≤ MAX_TEXT = subst (λ (t : List ℕ). length t ≤ MAX_TEXT) (text-one line other text is' is) short in
-        absurd (omega arith)
+    no-second : ¬ HasTwo text
+    no-second (a, b, c, same) = let no : b ∷ words c ≡ [] = ap later (sym same ∙ is) in absurd cc
 
--- the first word of a query command
-query-first : (line first : List ℕ) (later : List (List ℕ)) → words line ≡ first ∷ later → IsQueryLine line → first ≡ codes "query"
-query-first line first later is (tree, (text, is', short, reads)) = ap first_word (sym is ∙ is')
+-- what is added, where the row is known
+added-known : (catalog : Catalog) (text first second behind : List ℕ) (number : ℕ) → words text ≡ first ∷ second ∷ words behind → table_added catalog first second ≡ Some number
+    → Known (IsRow catalog number behind) → SaidOrNone (SaysAdd catalog text)
+added-known catalog text first second behind number is head (inl (row, spells)) =
+    inl (
+      add number second row,
+      record {
+        table = first;
+        name = second;
+        row_text = behind;
+        number = number;
+        row = row;
+        cut = is;
+        head = head;
+        spells = spells;
+        says = refl;
+      },
+    )
+added-known catalog text first second behind number is head (inr none) = inr (no-row catalog text first second behind number is (sym head) (λ row spells. none (row, spells)))
 
--- whether a line with a text behind a word is a query command, by the word
-verb-known : IsOneThing → IsSomething → (line first text : List ℕ) (same : Bool) → bytes_eq first (codes "query") ≡ same → words line ≡ first ∷ words text
-    → Known (IsQueryLine line)
-verb-known one some line first text true same is =
-    short-known line text (nat_le (length text) MAX_TEXT) refl
-    (is ∙ ap (λ (word : List ℕ). word ∷ words text) ((bytes_eq-Decides first (codes "query")).0 same))
-    (let what = some query_text text in query-by one text (what.0) (what.1))
-verb-known one some line first text false same is =
-    inr (λ says. let yes = (bytes_eq-Decides first (codes "query")).1 (query-first line first (words text) is says) in absurd cc)
+table-known : Readings → (catalog : Catalog) (text first second behind : List ℕ) (found : Option ℕ) → words text ≡ first ∷ second ∷ words behind → table_added catalog first second ≡ found
+    → SaidOrNone (SaysAdd catalog text)
+table-known laws catalog text first second behind None is head = inr (no-table catalog text first second behind is (sym head))
+table-known laws catalog text first second behind (Some number) is head =
+    added-known catalog text first second behind number is head (row-known laws catalog number behind (schema_of catalog number) refl)
 
--- a line that is one word is no query command
-alone-known : (line first : List ℕ) → words line ≡ first ∷ [] → ¬ IsQueryLine line
-alone-known line first is (tree, (text, is', short, reads)) = none-behind line first is text is'
+add-known : Readings → (catalog : Catalog) (text : List ℕ) → Known (HasTwo text) → SaidOrNone (SaysAdd catalog text)
+add-known laws catalog text (inl (first, second, behind, is)) = table-known laws catalog text first second behind (table_added catalog first second) is refl
+add-known laws catalog text (inr none) = inr (no-cut catalog text (λ first second behind is. none (first, second, behind, is)))
 
--- whether a line is a query command
-query-known : IsOneThing → IsSomething → (line : List ℕ) → HasBehind line ⊎ IsAlone line → Known (IsQueryLine line)
-query-known one some line (inl (first, text, is)) = verb-known one some line first text (bytes_eq first (codes "query")) refl is
-query-known one some line (inr (first, is)) = inr (alone-known line first is)
+-- a text is a value of the column, or not
+value-known : Readings → (kind : Option FieldType) (text : List ℕ) → ((value : Option Value) × SaysValue kind text value) ⊎ ((value : Option Value) → ¬ SaysValue kind text value)
+value-known laws None text = inl (None, refl)
+value-known laws (Some kind) text =
+    elim (laws.field kind text) [
+      | inl (value, spells) ↦ inl (Some value, spells)
+      | inr none ↦ inr (value-read kind text none)
+    ]
 
--- a line that is no query and whose words say nothing says nothing
-nothing-said : (catalog : Catalog) (line : List ℕ) → words_said catalog (words line) ≡ None → ¬ IsQueryLine line → (said : SaidTree) → ¬ LineSays catalog line said
-nothing-said catalog line is none said (inl (tree, same, says)) = none (tree, says)
-nothing-said catalog line is none said (inr is') = let no : None ≡ Some said = sym is ∙ is' in absurd cc
+-- what is set, where the head and the value are known
+set-by : Readings → (catalog : Catalog) (names : List Given) (text : List ℕ) (name column value_text : Word) (head : Bool) → words text ≡ name ∷ column ∷ value_text ∷ []
+    → is_set name column ≡ head → SaidOrNone (SaysSet catalog names text)
+set-by laws catalog names text name column value_text true is head =
+    elim (value-known laws (kind_named catalog names name column) value_text) [
+      | inl (value, spells) ↦ inl (
+        set name column value,
+        record {
+          name = name;
+          column = column;
+          value_text = value_text;
+          value = value;
+          cut = is;
+          head = head;
+          spells = spells;
+          says = refl;
+        },
+      )
+      | inr none ↦ inr (no-value catalog names text name column value_text is none)
+    ]
+set-by laws catalog names text name column value_text false is head = inr (no-head catalog names text name column value_text is head)
 
--- the line says something
-abbrev SaysSome : Catalog → List ℕ → Type 0
-SaysSome catalog line = (said : SaidTree) × LineSays catalog line said
+set-known : Readings → (catalog : Catalog) (names : List Given) (text : List ℕ) (list : List Word) → words text ≡ list → SaidOrNone (SaysSet catalog names text)
+set-known laws catalog names text (name ∷ column ∷ value_text ∷ []) is = set-by laws catalog names text name column value_text (is_set name column) is refl
+set-known laws catalog names text [] is = inr (no-words catalog names text (λ a b c same. let no : a ∷ b ∷ c ∷ [] ≡ [] = sym same ∙ is in absurd cc))
+set-known laws catalog names text (x ∷ []) is = inr (no-words catalog names text (λ a b c same. let no : a ∷ b ∷ c ∷ [] ≡ x ∷ [] = sym same ∙ is in absurd cc))
+set-known laws catalog names text (x ∷ y ∷ []) is = inr (no-words catalog names text (λ a b c same. let no : a ∷ b ∷ c ∷ [] ≡ x ∷ y ∷ [] = sym same ∙ is in absurd cc))
+set-known laws catalog names text (x ∷ y ∷ z ∷ w ∷ more) is =
+    inr (no-words catalog names text (λ a b c same. let no : a ∷ b ∷ c ∷ [] ≡ x ∷ y ∷ z ∷ w ∷ more = sym same ∙ is in absurd cc))
+
+-- a text is a query, or not
+query-known : (text : List ℕ) → Known (IsShortQuery text) → SaidOrNone (QuerySays text)
+query-known text (inl (tree, says)) = inl (query tree, (tree, refl, says))
+query-known text (inr none) = inr (λ said says. none (says.0, says.2))
+
+-- ---- lines
+
+-- the text behind the word of a command says something, or nothing
+verb-known : Readings → (catalog : Catalog) (names : List Given) (command : Verb) (text : List ℕ) → SaidOrNone (VerbSays catalog names command text)
+verb-known laws catalog names verb.Room text = found-known (room_said catalog (words text))
+verb-known laws catalog names verb.Load text = found-known (load_said catalog (words text))
+verb-known laws catalog names verb.Add text = add-known laws catalog text (two-known text (line-cut text))
+verb-known laws catalog names verb.Get text = found-known (name_said get (words text))
+verb-known laws catalog names verb.Set text = set-known laws catalog names text (words text) refl
+verb-known laws catalog names verb.Remove text = found-known (name_said remove (words text))
+verb-known laws catalog names verb.Query text =
+    query-known text (short-known text (nat_le (length text) MAX_TEXT) refl (let what = laws.some query_text text in query-by laws.one text (what.0) (what.1)))
+verb-known laws catalog names verb.Compact text = found-known (table_said compact catalog (words text))
+verb-known laws catalog names verb.Stat text = found-known (table_said stat catalog (words text))
+verb-known laws catalog names verb.Drop text = found-known (drop_said (words text))
 
 -- a line says something, or nothing
-abbrev Says : Catalog → List ℕ → Type 0
-Says catalog line = SaysSome catalog line ⊎ ((said : SaidTree) → ¬ LineSays catalog line said)
+abbrev Says : Catalog → List Given → List ℕ → Type 0
+Says catalog names line = SaidOrNone (LineSays catalog names line)
 
-says-by : (catalog : Catalog) (line : List ℕ) (answer : Option SaidTree) → words_said catalog (words line) ≡ answer → Known (IsQueryLine line) → Says catalog line
-says-by catalog line (Some said) is query' = inl (said, inr is)
-says-by catalog line None is (inl (tree, says)) = inl (query tree, inl (tree, refl, says))
-says-by catalog line None is (inr none) = inr (nothing-said catalog line is none)
+-- what a line says, by the command that its first word begins
+says-by : Readings → (catalog : Catalog) (names : List Given) (line word text : List ℕ) (found : Option Verb) → words line ≡ word ∷ words text → verb_of word ≡ found → Says catalog names line
+says-by laws catalog names line word text None cut is = inr (no-verb catalog names line word (words text) cut is)
+says-by laws catalog names line word text (Some begins) cut is =
+    elim (verb-known laws catalog names begins text) [
+      | inl (said, says) ↦ inl (said, record { word = word; command = begins; text = text; cut = cut; is = is; says = says })
+      | inr none ↦ inr (λ said says. none said (behind-says catalog names line word text begins said cut is says))
+    ]
 
-says-known : IsOneThing → IsSomething → (catalog : Catalog) (line : List ℕ) → Says catalog line
-says-known one some catalog line = says-by catalog line (words_said catalog (words line)) refl (query-known one some line (line-cut line))
+says-known : Readings → (catalog : Catalog) (names : List Given) (line : List ℕ) → HasBehind line ⊎ IsAlone line → Says catalog names line
+says-known laws catalog names line (inl (word, text, is)) = says-by laws catalog names line word text (verb_of word) is refl
+says-known laws catalog names line (inr (word, is)) = inr (alone-nothing catalog names line word is)
 
 -- ---- what lines give
 
@@ -167,19 +279,19 @@ abbrev GivesThis : Catalog → List Word → ReadState → ℕ → List ℕ → 
 GivesThis catalog folds state number line = (given : Result ReadState ScriptKind) × LineGives catalog folds state number line given
 
 -- what a line that counts gives
-counts-some : (catalog : Catalog) (folds : List Word) (state : ReadState) (number : ℕ) (line : List ℕ) → Counts line → Says catalog line → GivesThis catalog folds state number line
+counts-some : (catalog : Catalog) (folds : List Word) (state : ReadState) (number : ℕ) (line : List ℕ) → Counts line → Says catalog state.names line → GivesThis catalog folds state number line
 counts-some catalog folds state number line counts (inl (said, says)) =
     (taken catalog state number said (said_fault catalog folds state said), command said counts says refl)
 counts-some catalog folds state number line counts (inr none) = (Err Grammar, no_command counts none refl)
 
 -- what a line of text gives
 text-some : (catalog : Catalog) (folds : List Word) (state : ReadState) (number : ℕ) (line : List ℕ) (quiet : Bool) → is_quiet line ≡ quiet → IsText line
-    → Says catalog line → GivesThis catalog folds state number line
+    → Says catalog state.names line → GivesThis catalog folds state number line
 text-some catalog folds state number line true is text says = (Ok state, passed_over (text, is) refl)
 text-some catalog folds state number line false is text says = counts-some catalog folds state number line (text, ap not is) says
 
 -- each line gives something
-line-some : (catalog : Catalog) (folds : List Word) (state : ReadState) (number : ℕ) (line : List ℕ) → Known (IsText line) → Says catalog line
+line-some : (catalog : Catalog) (folds : List Word) (state : ReadState) (number : ℕ) (line : List ℕ) → Known (IsText line) → Says catalog state.names line
     → GivesThis catalog folds state number line
 line-some catalog folds state number line (inl text) says = text-some catalog folds state number line (is_quiet line) refl text says
 line-some catalog folds state number line (inr none) says = (Err Grammar, no_text none refl)
@@ -200,11 +312,11 @@ next-some catalog folds state number line lines (Ok next, gives) behind = behind
     behind-some (inl (script, rest)) = inl (script, (Ok next, gives, rest))
     behind-some (inr (at, kind, rest)) = inr (at, kind, (Ok next, gives, rest))
 
-lines-some : IsOneThing → IsSomething → (catalog : Catalog) (folds : List Word) (lines : List (List ℕ)) (state : ReadState) (number : ℕ) → LinesSome catalog folds state number lines
-lines-some one some catalog folds [] state number = inl (script_of folds state, refl)
-lines-some one some catalog folds (line ∷ lines) state number =
-    next-some catalog folds state number line lines (line-some catalog folds state (number + 1) line (text-known line) (says-known one some catalog line))
-    (λ next. lines-some one some catalog folds lines next (number + 1))
+lines-some : Readings → (catalog : Catalog) (folds : List Word) (lines : List (List ℕ)) (state : ReadState) (number : ℕ) → LinesSome catalog folds state number lines
+lines-some laws catalog folds [] state number = inl (script_of folds state, refl)
+lines-some laws catalog folds (line ∷ lines) state number =
+    next-some catalog folds state number line lines (line-some catalog folds state (number + 1) line (text-known line) (says-known laws catalog state.names line (line-cut line)))
+    (λ next. lines-some laws catalog folds lines next (number + 1))
 
 -- ---- the limits of a text
 
@@ -303,5 +415,5 @@ text-gives catalog folds text (inr within) (inl (script, gives)) = inl (script, 
 text-gives catalog folds text (inr within) (inr (line, kind, gives)) = inr (line, kind, inr (within, gives))
 
 -- each text spells a script, or has a first line that is refused
-pub gives-some : IsOneThing → IsSomething → GivesSome
-gives-some one some catalog folds text = text-gives catalog folds text (limit-some text) (lines-some one some catalog folds (lines text) start 0)
+pub gives-some : Readings → GivesSome
+gives-some laws catalog folds text = text-gives catalog folds text (limit-some text) (lines-some laws catalog folds (lines text) start 0)

@@ -1,6 +1,5 @@
 -- A script that was read is sound.
 use Rattle.std.proofs.Common.{◌≡◌, ◌≤◌, arith, ℕ, ◌+◌, List, [], ◌∷◌, inl, inr, map, length, Option, None, Some, Ok, Err, refl, sym, ap, ◌∙◌, subst}
-use Rattle.std.proofs.lemmas.List.{length-map}
 use Rattle.std.proofs.lemmas.Simd.{map-map}
 use Rattle.std.specs.declared.result.Result.{Result}
 use Rattle.std.specs.List.{AllByRecursion}
@@ -13,18 +12,18 @@ use Rattle.smc_shape.specs.declared.coll.CollShape.{CollShape}
 use Rattle.smc_shape.proofs.AskedLaws.{fault_of-none, no-fault_of}
 use Rattle.smc_shape.specs.declared.shape.TheConstants.{MAX_PASSES}
 use Rattle.smc_types.specs.declared.catalog.Catalog.{Catalog}
-use Rattle.smc_script.specs.Faults.{LineGives, passed_over, no_text, no_command, command, has_room, is_doing, is_too_large, room_fault, name_fault, said_fault, taken}
-use Rattle.smc_script.specs.Says.{SaidTree, room, load, query, compact, stat}
+use Rattle.smc_script.specs.Faults.{LineGives, passed_over, no_text, no_command, command, has_room, is_doing, is_too_large, knows, room_fault, name_fault, said_fault, taken}
+use Rattle.smc_script.specs.Says.{SaidTree, room, load, add, get, set, remove, query, compact, stat, drop_fold}
 use Rattle.smc_script.specs.Scripts.{Answers, LinesGive, Outcome}
-use Rattle.smc_script.specs.Sound.{IsPlaced, IsSound, Opens, coll_of_room}
+use Rattle.smc_script.specs.Sound.{EachCommand, IsFit, IsPlaced, IsSound, Opens, coll_of_room}
 use Rattle.smc_script.specs.States.{ReadState, after, colls_of, placed, script_of, start, with_room}
 use Rattle.smc_script.specs.Trees.{ScriptTree, script_tree}
 use Rattle.smc_script.specs.declared.fault.ScriptFault.{ScriptFault}
 use Rattle.smc_script.specs.declared.fault.ScriptKind.{ScriptKind}
-use Rattle.smc_script.specs.declared.fault.ScriptKind.TheVariants.{Room}
+use Rattle.smc_script.specs.declared.fault.ScriptKind.TheVariants.{Name, Room}
 use Rattle.smc_script.specs.declared.script.Script.{Script}
 use Rattle.smc_script.specs.declared.state.Asked.{Asked}
-use Rattle.smc_script.proofs.PlacedLaws.{ArePlaced, after-placed}
+use Rattle.smc_script.proofs.PlacedLaws.{Fits, IsGood, SaidFits, after-good, denied-none, line-fits}
 use Rattle.smc_script.proofs.StateLaws.{fault-none, none-last, none-there}
 
 -- the state of an answer, where it has one
@@ -76,9 +75,15 @@ after-opens : (catalog : Catalog) (state : ReadState) (line : ℕ) (said : SaidT
 after-opens catalog state line (room table (Some slots)) opens is = room-opens catalog state table slots is
 after-opens catalog state line (room table None) opens is = opens
 after-opens catalog state line (load table file) opens is = opens
+after-opens catalog state line (add table name row) opens is = opens
+after-opens catalog state line (get name) opens is = opens
+after-opens catalog state line (set name column (Some value)) opens is = opens
+after-opens catalog state line (set name column None) opens is = opens
+after-opens catalog state line (remove name) opens is = opens
 after-opens catalog state line (query tree) opens is = opens
 after-opens catalog state line (compact table) opens is = opens
 after-opens catalog state line (stat table) opens is = opens
+after-opens catalog state line (drop_fold name) opens is = opens
 
 -- the same of what a line that says this gives
 taken-opens : (catalog : Catalog) (folds : List Word) (state next : ReadState) (line : ℕ) (said : SaidTree) (kind : Option ScriptKind) (given : Result ReadState ScriptKind)
@@ -123,42 +128,48 @@ second-none : (one other : Option ScriptKind) → option_or one other ≡ None �
 second-none None other is = is
 second-none (Some kind) other is = absurd cc
 
--- what a line that says this gives has its parts placed
-taken-placed : (catalog : Catalog) (folds : List Word) (state next : ReadState) (line : ℕ) (said : SaidTree) (kind : Option ScriptKind) (given : Result ReadState ScriptKind)
-    → ArePlaced state → said_fault catalog folds state said ≡ kind → given ≡ taken catalog state line said kind → given ≡ Ok next → ArePlaced next
-taken-placed catalog folds state next line said None given all none is same =
-    subst ArePlaced (state-one (after catalog state line said) next given is same)
-    (after-placed catalog folds state line said all (second-none (room_fault catalog state said) (name_fault catalog folds state said) none))
-taken-placed catalog folds state next line said (Some kind) given all none is same = absurd cc
+-- what a line that says this gives is good
+taken-good : (catalog : Catalog) (folds : List Word) (state next : ReadState) (line : ℕ) (said : SaidTree) (kind : Option ScriptKind) (given : Result ReadState ScriptKind)
+    → IsGood catalog state → SaidFits catalog state.names said → said_fault catalog folds state said ≡ kind → given ≡ taken catalog state line said kind → given ≡ Ok next → IsGood catalog next
+taken-good catalog folds state next line said None given good fits none is same =
+    subst (IsGood catalog) (state-one (after catalog state line said) next given is same)
+    (after-good catalog folds state line said good fits (first-none (room_fault catalog state said) (name_fault catalog folds state said) none)
+    (denied-none (knows catalog folds state said) Name (second-none (room_fault catalog state said) (name_fault catalog folds state said) none)))
+taken-good catalog folds state next line said (Some kind) given good fits none is same = absurd cc
 
--- a line that is taken leaves the parts placed
-line-placed : (catalog : Catalog) (folds : List Word) (state next : ReadState) (number : ℕ) (line : List ℕ) (given : Result ReadState ScriptKind)
-    → ArePlaced state → LineGives catalog folds state number line given → given ≡ Ok next → ArePlaced next
-line-placed catalog folds state next number line given all (passed_over quiet is) same = subst ArePlaced (state-one state next given is same) all
-line-placed catalog folds state next number line given all (no_text none is) same = absurd cc
-line-placed catalog folds state next number line given all (no_command counts none is) same = absurd cc
-line-placed catalog folds state next number line given all (command said counts says is) same =
-    taken-placed catalog folds state next number said (said_fault catalog folds state said) given all refl is same
+-- a line that is taken leaves what was read good
+line-good : Fits → (catalog : Catalog) (folds : List Word) (state next : ReadState) (number : ℕ) (line : List ℕ) (given : Result ReadState ScriptKind)
+    → IsGood catalog state → LineGives catalog folds state number line given → given ≡ Ok next → IsGood catalog next
+line-good laws catalog folds state next number line given good (passed_over quiet is) same = subst (IsGood catalog) (state-one state next given is same) good
+line-good laws catalog folds state next number line given good (no_text none is) same = absurd cc
+line-good laws catalog folds state next number line given good (no_command counts none is) same = absurd cc
+line-good laws catalog folds state next number line given good (command said counts says is) same =
+    taken-good catalog folds state next number said (said_fault catalog folds state said) given good (line-fits laws catalog state.names line said says) refl is same
 
--- the parts of a script are placed among its rooms
-abbrev AreFit : ScriptTree → Type 0
-AreFit script = AllByRecursion (IsPlaced (length script.rooms)) script.parts
+-- the parts of a script are placed among its rooms, and fit its tables
+abbrev AreFit : Catalog → ScriptTree → Type 0
+AreFit catalog script = AllByRecursion (IsPlaced script.rooms) script.parts × AllByRecursion (EachCommand (IsFit catalog)) script.parts
 
--- the parts of a script that lines give are placed among its rooms
-lines-placed : (catalog : Catalog) (folds : List Word) (lines : List (List ℕ)) (state : ReadState) (number : ℕ) (script : ScriptTree) → ArePlaced state
-    → LinesGive catalog folds state number lines (Ok script) → AreFit script
-lines-placed catalog folds [] state number script all is =
-    subst AreFit (sym (ap (λ (o : Outcome). script_in o script) is))
-    (subst (λ (n : ℕ). AllByRecursion (IsPlaced n) state.parts) (sym (length-map state.rooms (placed state.rooms))) all)
-lines-placed catalog folds (line ∷ lines) state number script all (Ok next, gives, rest) =
-    lines-placed catalog folds lines next (number + 1) script (line-placed catalog folds state next (number + 1) line (Ok next) all gives refl) rest
-lines-placed catalog folds (line ∷ lines) state number script all (Err kind, gives, rest) = absurd cc
+-- so are those of a script that lines give
+lines-good : Fits → (catalog : Catalog) (folds : List Word) (lines : List (List ℕ)) (state : ReadState) (number : ℕ) (script : ScriptTree) → IsGood catalog state
+    → LinesGive catalog folds state number lines (Ok script) → AreFit catalog script
+lines-good laws catalog folds [] state number script good is =
+    subst (AreFit catalog) (sym (ap (λ (o : Outcome). script_in o script) is)) (good.placed, good.fits)
+lines-good laws catalog folds (line ∷ lines) state number script good (Ok next, gives, rest) =
+    lines-good laws catalog folds lines next (number + 1) script (line-good laws catalog folds state next (number + 1) line (Ok next) good gives refl) rest
+lines-good laws catalog folds (line ∷ lines) state number script good (Err kind, gives, rest) = absurd cc
+
+-- nothing was done where nothing was read
+start-good : (catalog : Catalog) → IsGood catalog start
+start-good catalog = record { before = λ is. refl; placed = tt; fits = tt }
 
 -- a script that was read is sound
-pub answer-sound : (catalog : Catalog) (folds : List Word) (lines : List (List ℕ)) (answer : Result Script ScriptFault)
+pub answer-sound : Fits → (catalog : Catalog) (folds : List Word) (lines : List (List ℕ)) (answer : Result Script ScriptFault)
     → Answers answer (LinesGive catalog folds start 0 lines) → IfOk answer (IsSound catalog)
-answer-sound catalog folds lines (Ok script) gives = record {
-  opens = lines-open catalog folds lines start 0 (script_tree script) (inl refl) gives;
-  fits = lines-placed catalog folds lines start 0 (script_tree script) tt gives;
-}
-answer-sound catalog folds lines (Err fault) gives = tt
+answer-sound laws catalog folds lines (Ok script) gives =
+    let fit = lines-good laws catalog folds lines start 0 (script_tree script) (start-good catalog) gives in record {
+      opens = lines-open catalog folds lines start 0 (script_tree script) (inl refl) gives;
+      fits = fit.0;
+      values = fit.1;
+    }
+answer-sound laws catalog folds lines (Err fault) gives = tt

@@ -1,5 +1,5 @@
 -- Rooms that a region has are few.
-use Rattle.std.proofs.Common.{◌≡◌, ℕ, ◌≤◌, List, length, Bool, true, false, Option, None, Some, refl, subst}
+use Rattle.std.proofs.Common.{◌≡◌, ℕ, ◌≤◌, List, length, Bool, true, false, Option, None, Some, Result, Ok, Err, OnOk, refl, subst}
 use Rattle.std.proofs.lemmas.Bool.{ltb-false}
 use Rattle.std.proofs.lemmas.List.{length-map}
 use Rattle.std.specs.Prelude.{is_some, ◌||◌, ◌==◌, nat_lt, if◌then◌else◌}
@@ -57,3 +57,8 @@ rooms-few catalog state table slots is =
     (fault-none (is_doing state.phase || has_room state.rooms table || is_too_large catalog rooms) Room is) in
     let few = colls-few MAX_PASSES (colls_of catalog rooms) (none-there (fault_of MAX_PASSES (colls_of catalog rooms)) test) in
     subst (λ (n : ℕ). n ≤ MAX_COLLS) (length-map rooms (coll_asked catalog)) few
+
+-- what holds where a call is done, of each catalog, holds of this one
+pub each-ok : {T F : Type 0} (answer : Result T F) (holds : Catalog → Type 0) (catalog : Catalog) → OnOk answer ((other : Catalog) → holds other) → OnOk answer (holds catalog)
+each-ok (Ok done) holds catalog each = each catalog
+each-ok (Err fault) holds catalog each = tt

@@ -8,9 +8,10 @@ use Rattle.smc_query.specs.Trees.{Word, ItemTree, CallTree, count, aggregate, fo
 use Rattle.smc_shape.specs.Faults.{fault_of}
 use Rattle.smc_shape.specs.declared.shape.TheConstants.{MAX_PASSES}
 use Rattle.smc_types.specs.declared.catalog.Catalog.{Catalog}
-use Rattle.smc_script.specs.Says.{SaidTree, LineSays, room, load, query, compact, stat}
+use Rattle.smc_script.specs.Names.{table_given}
+use Rattle.smc_script.specs.Says.{SaidTree, LineSays, room, load, add, get, remove, set, query, compact, stat, drop_fold, kind_named}
 use Rattle.smc_script.specs.States.{ReadState, after, colls_of, room_at, with_room}
-use Rattle.smc_script.specs.Tables.{table_named}
+use Rattle.smc_script.specs.Tables.{may_write, table_named}
 use Rattle.smc_script.specs.declared.fault.ScriptKind.{ScriptKind}
 use Rattle.smc_script.specs.declared.fault.ScriptKind.TheVariants.{Grammar, Room, Name}
 use Rattle.smc_script.specs.declared.state.Asked.{Asked}
@@ -44,29 +45,46 @@ abbrev pub room_fault : Catalog → ReadState → SaidTree → Option ScriptKind
 room_fault catalog state (room table slots) = fault_where (is_doing state.phase || has_room state.rooms table || is_no_room catalog state.rooms table slots) Room
 room_fault catalog state said = None
 
--- whether a call is no fold, or one of these
-abbrev pub knows_call : List Word → CallTree → Bool
-knows_call folds count = true
-knows_call folds (aggregate kind of) = true
-knows_call folds (fold name of) = list_any (λ known. bytes_eq known name) folds
+-- whether a fold of this name was handed in, and none of this name dropped
+abbrev pub is_left : (folds dropped : List Word) → Word → Bool
+is_left folds dropped name = list_any (λ known. bytes_eq known name) folds && not (list_any (λ gone. bytes_eq gone name) dropped)
 
--- whether each fold of the query is one of these
-abbrev pub knows_folds : List Word → List ItemTree → Bool
-knows_folds folds items = list_all (λ item. knows_call folds item.call) items
+-- whether a call is no fold, or one that is left
+abbrev pub knows_call : (folds dropped : List Word) → CallTree → Bool
+knows_call folds dropped count = true
+knows_call folds dropped (aggregate kind of) = true
+knows_call folds dropped (fold name of) = is_left folds dropped name
+
+-- whether each fold of the query is left
+abbrev pub knows_folds : (folds dropped : List Word) → List ItemTree → Bool
+knows_folds folds dropped items = list_all (λ item. knows_call folds dropped item.call) items
 
 -- whether there is such a table, and it has a room
 abbrev pub is_placed : List Asked → Option ℕ → Bool
 is_placed rooms None = false
 is_placed rooms (Some table) = has_room rooms table
 
--- a command names tables with a room, and folds that were handed in
+-- whether the name was given to an object of a table with a room
+abbrev pub is_given : ReadState → Word → Bool
+is_given state name = is_placed state.rooms (table_given state.names name)
+
+-- a command names tables with a room, a name that is new or one that was given, a column that it may write, and folds
+-- that are left
+abbrev pub knows : Catalog → List Word → ReadState → SaidTree → Bool
+knows catalog folds state (room table slots) = true
+knows catalog folds state (load table file) = has_room state.rooms table
+knows catalog folds state (add table name row) = has_room state.rooms table && not (is_some (table_given state.names name))
+knows catalog folds state (get name) = is_given state name
+knows catalog folds state (set name column value) = is_given state name && may_write (kind_named catalog state.names name column)
+knows catalog folds state (remove name) = is_given state name
+knows catalog folds state (query tree) = is_placed state.rooms (table_named catalog tree.table) && knows_folds folds state.dropped tree.items
+knows catalog folds state (compact table) = has_room state.rooms table
+knows catalog folds state (stat table) = has_room state.rooms table
+knows catalog folds state (drop_fold name) = is_left folds state.dropped name
+
+-- the kind of a line that names what is not known
 abbrev pub name_fault : Catalog → List Word → ReadState → SaidTree → Option ScriptKind
-name_fault catalog folds state (room table slots) = None
-name_fault catalog folds state (load table file) = fault_where (not (has_room state.rooms table)) Name
-name_fault catalog folds state (query tree) =
-    fault_where (not (is_placed state.rooms (table_named catalog tree.table) && knows_folds folds tree.items)) Name
-name_fault catalog folds state (compact table) = fault_where (not (has_room state.rooms table)) Name
-name_fault catalog folds state (stat table) = fault_where (not (has_room state.rooms table)) Name
+name_fault catalog folds state said = fault_where (not (knows catalog folds state said)) Name
 
 -- the kind of a line that says this, in the order in which the kinds are tested
 abbrev pub said_fault : Catalog → List Word → ReadState → SaidTree → Option ScriptKind
@@ -84,9 +102,9 @@ pub data LineGives : Catalog → List Word → ReadState → ℕ → List ℕ �
   no_text : {catalog : Catalog} {folds : List Word} {state : ReadState} {number : ℕ} {line : List ℕ} {given : Result ReadState ScriptKind}
       → ¬ IsText line → given ≡ Err Grammar → LineGives catalog folds state number line given
   no_command : {catalog : Catalog} {folds : List Word} {state : ReadState} {number : ℕ} {line : List ℕ} {given : Result ReadState ScriptKind}
-      → Counts line → ((said : SaidTree) → ¬ LineSays catalog line said) → given ≡ Err Grammar → LineGives catalog folds state number line given
+      → Counts line → ((said : SaidTree) → ¬ LineSays catalog state.names line said) → given ≡ Err Grammar → LineGives catalog folds state number line given
   command : {catalog : Catalog} {folds : List Word} {state : ReadState} {number : ℕ} {line : List ℕ} {given : Result ReadState ScriptKind} (said : SaidTree)
-      → Counts line → LineSays catalog line said → given ≡ taken catalog state number said (said_fault catalog folds state said)
+      → Counts line → LineSays catalog state.names line said → given ≡ taken catalog state number said (said_fault catalog folds state said)
       → LineGives catalog folds state number line given
 
 -- what the answer to a line says that it gives: the state behind it, or its kind

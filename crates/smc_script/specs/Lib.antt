@@ -1,5 +1,6 @@
 pub mod Trees
 pub mod Tables
+pub mod Names
 pub mod Says
 pub mod States
 pub mod Faults

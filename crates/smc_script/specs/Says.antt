@@ -1,5 +1,5 @@
--- What a line says, whatever went before it.
-use Rattle.std.specs.Prelude.{◌≡◌, ◌⊎◌, ℕ, ◌*◌, ◌≤◌, Bool, true, false, ◌&&◌, nat_lt, nat_le, if◌then◌else◌, List, [], ◌∷◌, length, codes, Option, Some, None}
+-- What a line says, by the names that were given before it and by nothing else that went before.
+use Rattle.std.specs.Prelude.{◌≡◌, ◌≢◌, ℕ, ◌*◌, ◌≤◌, Bool, true, false, ◌&&◌, nat_lt, nat_le, if◌then◌else◌, List, [], ◌∷◌, length, codes, Option, Some, None}
 use Rattle.std.specs.Int.{div_ceil}
 use Rattle.std.specs.List.{list_all}
 use Rattle.std.specs.Option.{option_map}
@@ -12,27 +12,50 @@ use Rattle.smc_lines.specs.Numbers.{is_number, decimal_value}
 use Rattle.smc_lines.specs.Words.{words}
 use Rattle.smc_query.specs.Trees.{Word, QueryTree, a_query, query_text, query_tree}
 use Rattle.smc_query.specs.declared.query.Query.{Query}
+use Rattle.smc_tbl.specs.Alone.{SpellsAlone}
+use Rattle.smc_tbl.specs.TableText.{SpellsRow}
+use Rattle.smc_tbl.specs.declared.fault.TblFault.{TblFault}
+use Rattle.smc_tbl.specs.declared.fault.TblFault.TheVariants as row_fault
 use Rattle.smc_types.specs.declared.catalog.Catalog.{Catalog}
+use Rattle.smc_types.specs.declared.column.FieldType.{FieldType}
+use Rattle.smc_types.specs.declared.row.Row.{Row}
+use Rattle.smc_types.specs.declared.row.Value.{Value}
+use Rattle.smc_types.specs.declared.schema.Schema.{Schema}
 use Rattle.smc_shape.specs.declared.coll.TheConstants.{BLOCK_SLOTS}
-use Rattle.smc_script.specs.Tables.{table_named}
+use Rattle.smc_script.specs.Names.{Given, is_script_name, table_given}
+use Rattle.smc_script.specs.Tables.{kind_of, schema_of, table_named}
 use Rattle.smc_script.specs.declared.limits.TheConstants.{MAX_FILE, MAX_DIGITS, MAX_SLOTS}
 use Rattle.smc_script.specs.declared.said.Said.{Said}
 use Rattle.smc_script.specs.declared.said.Said.TheVariants as of
+use Rattle.smc_script.specs.declared.verb.Verb.{Verb}
+use Rattle.smc_script.specs.declared.verb.Verb.TheVariants as verb
 
--- What a line says. The slots that a room asks for are in whole blocks; a number out of its range asks for none.
+-- What a line says. The slots that a room asks for are in whole blocks; a number out of its range asks for none. A value
+-- is set that the column of the named object can have; where there is no such column, none.
 pub data SaidTree : Type 0 where
   room : (table : ℕ) → (slots : Option ℕ) → SaidTree
   load : (table : ℕ) → (file : Word) → SaidTree
+  add : (table : ℕ) → (name : Word) → (row : List Value) → SaidTree
+  get remove : (name : Word) → SaidTree
+  set : (name column : Word) → (value : Option Value) → SaidTree
   query : QueryTree → SaidTree
   compact stat : (table : ℕ) → SaidTree
+  drop_fold : (name : Word) → SaidTree
 
 -- the tree of what a line says
 abbrev pub said_tree : Said → SaidTree
 said_tree (of.Room table slots) = room table slots
 said_tree (of.Load table file) = load table file
+said_tree (of.Add table name row) = add table name row
+said_tree (of.Get name) = get name
+said_tree (of.Set name column value) = set name column value
+said_tree (of.Remove name) = remove name
 said_tree (of.Query query') = query (query_tree query')
 said_tree (of.Compact table) = compact table
 said_tree (of.Stat table) = stat table
+said_tree (of.DropFold name) = drop_fold name
+
+-- ---- commands that are words alone
 
 -- printable ASCII other than the space
 abbrev pub is_file_byte : ℕ → Bool
@@ -65,44 +88,146 @@ abbrev pub table_said : (ℕ → SaidTree) → Catalog → List Word → Option 
 table_said say catalog (table ∷ []) = option_map say (table_named catalog table)
 table_said say catalog words = None
 
--- what a verb and the words behind it say, for the commands that are words alone
-abbrev pub verb_said : Catalog → Word → List Word → Option SaidTree
-verb_said catalog verb words =
-    if bytes_eq verb (codes "room") then room_said catalog words
-    else if bytes_eq verb (codes "load") then load_said catalog words
-    else if bytes_eq verb (codes "compact") then table_said compact catalog words
-    else if bytes_eq verb (codes "stat") then table_said stat catalog words
+-- NAME
+abbrev pub name_said : (Word → SaidTree) → List Word → Option SaidTree
+name_said say (name ∷ []) = if is_script_name name then Some (say name) else None
+name_said say words = None
+
+-- fold NAME
+abbrev pub drop_said : List Word → Option SaidTree
+drop_said (word ∷ name ∷ []) = if bytes_eq word (codes "fold") && is_script_name name then Some (drop_fold name) else None
+drop_said words = None
+
+-- ---- commands that end in a text
+
+-- the text is this query
+abbrev pub SaysQuery : List ℕ → QueryTree → Type 0
+SaysQuery text tree = (length text ≤ MAX_TEXT) × ReadsText query_text text (a_query tree)
+
+-- a query is what the text says
+abbrev pub QuerySays : List ℕ → SaidTree → Type 0
+QuerySays text said = (tree : QueryTree) × (said ≡ query tree) × SaysQuery text tree
+
+-- the text is this row of the table with this number
+abbrev pub SpellsRowOf : Catalog → ℕ → List ℕ → List Value → Type 0
+SpellsRowOf catalog table text row = (schema : Schema) × (schema_of catalog table ≡ Some schema) × SpellsRow schema text row
+
+-- the table that a row is added to, where the name is one
+abbrev pub table_added : Catalog → (table name : Word) → Option ℕ
+table_added catalog table name = if is_script_name name then table_named catalog table else None
+
+-- TABLE NAME ROW
+pub record SaysAdd (catalog : Catalog) (text : List ℕ) (said : SaidTree) : Type 0 where
+  pub table : Word
+  pub name : Word
+  pub row_text : List ℕ
+  pub number : ℕ
+  pub row : List Value
+  pub cut : words text ≡ table ∷ name ∷ words row_text
+  pub head : table_added catalog table name ≡ Some number
+  pub spells : SpellsRowOf catalog number row_text row
+  pub says : said ≡ add number name row
+
+-- the text is this value of a column, where there is one; else no value is read from it
+abbrev pub SaysValue : Option FieldType → List ℕ → Option Value → Type 0
+SaysValue None text value = value ≡ None
+SaysValue (Some kind) text (Some value) = SpellsAlone kind text value
+SaysValue (Some kind) text None = ⊥
+
+-- a name, and a column that is a word
+abbrev pub is_set : (name column : Word) → Bool
+is_set name column = is_script_name name && nat_lt 0 (length column)
+
+-- the type of the column of the object with this name
+abbrev pub kind_named : Catalog → List Given → (name column : Word) → Option FieldType
+kind_named catalog names name column = kind_of catalog (table_given names name) column
+
+-- NAME COLUMN VALUE
+pub record SaysSet (catalog : Catalog) (names : List Given) (text : List ℕ) (said : SaidTree) : Type 0 where
+  pub name : Word
+  pub column : Word
+  pub value_text : Word
+  pub value : Option Value
+  pub cut : words text ≡ name ∷ column ∷ value_text ∷ []
+  pub head : is_set name column ≡ true
+  pub spells : SaysValue (kind_named catalog names name column) value_text value
+  pub says : said ≡ set name column value
+
+-- ---- lines
+
+-- the command that a line begins with
+abbrev pub verb_of : Word → Option Verb
+verb_of word =
+    if bytes_eq word (codes "room") then Some verb.Room
+    else if bytes_eq word (codes "load") then Some verb.Load
+    else if bytes_eq word (codes "add") then Some verb.Add
+    else if bytes_eq word (codes "get") then Some verb.Get
+    else if bytes_eq word (codes "set") then Some verb.Set
+    else if bytes_eq word (codes "remove") then Some verb.Remove
+    else if bytes_eq word (codes "query") then Some verb.Query
+    else if bytes_eq word (codes "compact") then Some verb.Compact
+    else if bytes_eq word (codes "stat") then Some verb.Stat
+    else if bytes_eq word (codes "drop") then Some verb.Drop
     else None
 
--- what words say
-abbrev pub words_said : Catalog → List Word → Option SaidTree
-words_said catalog [] = None
-words_said catalog (verb ∷ words) = verb_said catalog verb words
+-- the text behind the word of a command says this
+abbrev pub VerbSays : Catalog → List Given → Verb → List ℕ → SaidTree → Type 0
+VerbSays catalog names verb.Room text said = room_said catalog (words text) ≡ Some said
+VerbSays catalog names verb.Load text said = load_said catalog (words text) ≡ Some said
+VerbSays catalog names verb.Add text said = SaysAdd catalog text said
+VerbSays catalog names verb.Get text said = name_said get (words text) ≡ Some said
+VerbSays catalog names verb.Set text said = SaysSet catalog names text said
+VerbSays catalog names verb.Remove text said = name_said remove (words text) ≡ Some said
+VerbSays catalog names verb.Query text said = QuerySays text said
+VerbSays catalog names verb.Compact text said = table_said compact catalog (words text) ≡ Some said
+VerbSays catalog names verb.Stat text said = table_said stat catalog (words text) ≡ Some said
+VerbSays catalog names verb.Drop text said = drop_said (words text) ≡ Some said
 
--- the line is the word `query`, a space, and the text of this query
-abbrev pub SaysQuery : List ℕ → QueryTree → Type 0
-SaysQuery line tree =
-    (text : List ℕ) × (words line ≡ codes "query" ∷ words text) × (length text ≤ MAX_TEXT) × ReadsText query_text text (a_query tree)
+-- the line says this: the word of a command, a space, and a text that says it
+pub record LineSays (catalog : Catalog) (names : List Given) (line : List ℕ) (said : SaidTree) : Type 0 where
+  pub word : Word
+  pub command : Verb
+  pub text : List ℕ
+  pub cut : words line ≡ word ∷ words text
+  pub is : verb_of word ≡ Some command
+  pub says : VerbSays catalog names command text said
 
--- the line says this: it is a query, or its words are another command
-abbrev pub LineSays : Catalog → List ℕ → SaidTree → Type 0
-LineSays catalog line said = ((tree : QueryTree) × (said ≡ query tree) × SaysQuery line tree) ⊎ (words_said catalog (words line) ≡ Some said)
+-- ---- answers
+
+-- what an answer says: this holds of what was read, or of nothing
+abbrev pub IsReadAs : (SaidTree → Type 0) → Option Said → Type 0
+IsReadAs holds (Some said) = holds (said_tree said)
+IsReadAs holds None = (said : SaidTree) → ¬ holds said
+
+-- what an answer says of the text behind a word: it says this, or nothing
+abbrev pub IsSaidBy : Catalog → List Given → Verb → List ℕ → Option Said → Type 0
+IsSaidBy catalog names command text said = IsReadAs (VerbSays catalog names command text) said
 
 -- what an answer says of the line: it says this, or nothing
-abbrev pub IsSaid : Catalog → List ℕ → Option Said → Type 0
-IsSaid catalog line (Some said) = LineSays catalog line (said_tree said)
-IsSaid catalog line None = (said : SaidTree) → ¬ LineSays catalog line said
+abbrev pub IsSaid : Catalog → List Given → List ℕ → Option Said → Type 0
+IsSaid catalog names line said = IsReadAs (LineSays catalog names line) said
 
--- what an answer says of each line that is the word `query` and this text
-abbrev pub IsSaidBehind : List ℕ → Option Said → Type 0
-IsSaidBehind text said = (catalog : Catalog) (line : List ℕ) → words line ≡ codes "query" ∷ words text → IsSaid catalog line said
-
--- what an answer says of the text behind the word `query`: it is this query, or none
+-- what an answer says of a text: it is this query, or none
 abbrev pub IsQueryRead : List ℕ → Option Query → Type 0
-IsQueryRead text (Some read) = (length text ≤ MAX_TEXT) × ReadsText query_text text (a_query (query_tree read))
-IsQueryRead text None = (tree : QueryTree) → length text ≤ MAX_TEXT → ¬ ReadsText query_text text (a_query tree)
+IsQueryRead text (Some read) = SaysQuery text (query_tree read)
+IsQueryRead text None = (tree : QueryTree) → ¬ SaysQuery text tree
+
+-- what an answer says of a text: it is this row of the table, or none
+abbrev pub IsRowRead : Catalog → ℕ → List ℕ → Option (List Value) → Type 0
+IsRowRead catalog table text (Some row) = SpellsRowOf catalog table text row
+IsRowRead catalog table text None = (row : List Value) → ¬ SpellsRowOf catalog table text row
+
+-- what an answer says of a text: it is this value of the column, or none of its values
+abbrev pub IsValueRead : Option FieldType → List ℕ → Option (Option Value) → Type 0
+IsValueRead kind text (Some value) = SaysValue kind text value
+IsValueRead kind text None = (value : Option Value) → ¬ SaysValue kind text value
 
 -- whether memory was refused
 abbrev pub is_memory : ParseFault → Bool
 is_memory NoMemory = true
 is_memory _ = false
+
+-- the same of a row
+abbrev pub is_row_memory : TblFault → Bool
+is_row_memory row_fault.NoMemory = true
+is_row_memory _ = false

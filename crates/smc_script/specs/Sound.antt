@@ -1,11 +1,19 @@
 -- What holds of every script that was read.
-use Rattle.std.specs.Prelude.{◌≡◌, ◌⊎◌, ℕ, ◌≤◌, ◌<◌, List, [], map, length, Option, None, Some, IfSome}
+use Rattle.std.specs.Prelude.{◌≡◌, ◌⊎◌, ⊤, ℕ, ◌≤◌, true, List, [], map, slice_get, All, Option, None, Some, IfSome}
 use Rattle.std.specs.List.{AllByRecursion}
+use Rattle.smc_query.specs.Trees.{Word}
 use Rattle.smc_shape.specs.Faults.{fault_of}
 use Rattle.smc_shape.specs.declared.coll.CollShape.{CollShape}
 use Rattle.smc_shape.specs.declared.shape.TheConstants.{MAX_PASSES}
+use Rattle.smc_tbl.specs.TableText.{FitsColumns}
+use Rattle.smc_types.specs.Columns.{value_kinds}
+use Rattle.smc_types.specs.Faults.{value_fault}
+use Rattle.smc_types.specs.Rows.{IsValue}
 use Rattle.smc_types.specs.declared.catalog.Catalog.{Catalog}
-use Rattle.smc_script.specs.Tables.{table_width}
+use Rattle.smc_types.specs.declared.column.FieldType.{FieldType}
+use Rattle.smc_types.specs.declared.row.Value.{Value}
+use Rattle.smc_types.specs.declared.schema.Schema.{Schema}
+use Rattle.smc_script.specs.Tables.{column_kind, is_editable, schema_of, table_width}
 use Rattle.smc_script.specs.Trees.{CommandTree, PartTree, load, add, get, remove, set, delete, update, query, compact, stat, drop_fold, one, group, part_tree}
 use Rattle.smc_script.specs.declared.script.Place.{Place}
 use Rattle.smc_script.specs.declared.script.Room.{Room}
@@ -33,16 +41,48 @@ place_in (compact place) = Some place
 place_in (stat place) = Some place
 place_in (drop_fold name) = None
 
--- the collection of the command is one of so many rooms'
-abbrev pub IsPlacedAmong : ℕ → CommandTree → Type 0
-IsPlacedAmong rooms command = IfSome (place_in command) (λ place. place.coll < rooms)
+-- the place is that of the room which stands there among the rooms
+pub record IsRoomPlace (rooms : List Room) (place : Place) : Type 0 where
+  pub room : Room
+  pub there : slice_get rooms place.coll ≡ Some room
+  pub same : room.place ≡ place
 
--- the collection of each command of the part is one of so many rooms'
-abbrev pub IsPlaced : ℕ → PartTree → Type 0
-IsPlaced rooms (one numbered) = IsPlacedAmong rooms numbered.command
-IsPlaced rooms (group workers) = AllByRecursion (AllByRecursion (λ numbered. IsPlacedAmong rooms numbered.command)) workers
+-- the place of the command is that of a room
+abbrev pub IsPlacedAmong : List Room → CommandTree → Type 0
+IsPlacedAmong rooms command = IfSome (place_in command) (IsRoomPlace rooms)
 
--- the region of a script's rooms opens, where the script has rooms, and the collection of each command lies in it
+-- this holds of each command of the part
+abbrev pub EachCommand : (CommandTree → Type 0) → PartTree → Type 0
+EachCommand holds (one numbered) = holds numbered.command
+EachCommand holds (group workers) = AllByRecursion (AllByRecursion (λ numbered. holds numbered.command)) workers
+
+-- the place of each command of the part is that of a room
+abbrev pub IsPlaced : List Room → PartTree → Type 0
+IsPlaced rooms part = EachCommand (IsPlacedAmong rooms) part
+
+-- the row is one of the table with this number: a value for each column of its file, within its range or width
+pub record FitsTable (catalog : Catalog) (table : ℕ) (row : List Value) : Type 0 where
+  pub schema : Schema
+  pub is : schema_of catalog table ≡ Some schema
+  pub fits : FitsColumns (value_kinds schema.columns) row
+  pub texts : All IsValue row
+
+-- the value is one of the column of this name, which may be written
+pub record FitsColumn (catalog : Catalog) (table : ℕ) (column : Word) (value : Value) : Type 0 where
+  pub kind : FieldType
+  pub is : column_kind catalog table column ≡ Some kind
+  pub writes : is_editable kind ≡ true
+  pub fits : value_fault kind value ≡ None
+
+-- what the command adds or sets fits its table
+abbrev pub IsFit : Catalog → CommandTree → Type 0
+IsFit catalog (add place name row) = FitsTable catalog place.table row
+IsFit catalog (set place name column value) = FitsColumn catalog place.table column value
+IsFit catalog command = ⊤
+
+-- the region of a script's rooms opens, where the script has rooms; the place of each command is that of a room, and what
+-- it adds or sets fits its table
 pub record IsSound (catalog : Catalog) (script : Script) : Type 0 where
   pub opens : Opens (map (coll_of_room catalog) script.rooms)
-  pub fits : AllByRecursion (IsPlaced (length script.rooms)) (map part_tree script.parts)
+  pub fits : AllByRecursion (IsPlaced script.rooms) (map part_tree script.parts)
+  pub values : AllByRecursion (EachCommand (IsFit catalog)) (map part_tree script.parts)

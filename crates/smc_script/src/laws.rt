@@ -2,6 +2,7 @@
 ghost use Rattle.smc_script.specs.Laws.{GivesOne, GivesSome};
 
 use smc_lang::laws::{is_something, one_thing};
+use smc_tbl::laws::{one_field, one_reading};
 
 /// A text gives one outcome at most: no two scripts, no two refused lines or kinds, and not both.
 ///
@@ -10,6 +11,8 @@ pub fn gives_one()
     ensures { GivesOne }
 {
     one_thing();
+    one_reading();
+    one_field();
 }
 
 /// Each text gives an outcome, whatever its bytes and however many.
@@ -18,4 +21,6 @@ pub fn gives_some()
 {
     one_thing();
     is_something();
+    one_reading();
+    one_field();
 }

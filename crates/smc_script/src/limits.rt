@@ -6,3 +6,9 @@ pub const MAX_DIGITS: usize = 9;
 
 /// How many slots a room has at most, 2^28.
 pub const MAX_SLOTS: u32 = 268_435_456;
+
+/// How many bytes the name of an object has at most.
+pub const MAX_NAME: usize = 16;
+
+/// The byte that may stand in a name beside letters and digits.
+pub const UNDERSCORE: u8 = b'_';

@@ -1,10 +1,37 @@
 //! The names that stand in a script.
 ghost use Rattle.std.specs.Prelude.{◌≡◌, IfOk};
+ghost use Rattle.std.specs.List.{list_all};
 ghost use Rattle.std.specs.String.{string_bytes};
+ghost use Rattle.smc_script.specs.Names as spec;
 
+use crate::limits::{MAX_NAME, UNDERSCORE};
 use smc_words::NoMemory;
 use std::alloc::Global;
 use std::marker::Model;
+
+fn is_name_byte(byte: u8) -> bool
+    ensures { result ≡ spec.is_name_byte byte }
+{
+    byte.is_ascii_lowercase() || byte.is_ascii_digit() || byte == UNDERSCORE
+}
+
+fn are_name_bytes(bytes: &[u8]) -> bool
+    ensures { result ≡ list_all spec.is_name_byte bytes.now }
+{
+    bytes.iter().all(|byte| is_name_byte(*byte))
+}
+
+/// Whether a word may be the name of an object.
+pub fn is_script_name(word: &str) -> bool
+    ensures { result ≡ spec.is_script_name word.now }
+{
+    match word.as_bytes() {
+        [first, others @ ..] => {
+            first.is_ascii_lowercase() & (others.len() < MAX_NAME) & are_name_bytes(others)
+        }
+        [] => false,
+    }
+}
 
 /// The name of an object in a script. Contracts see its bytes.
 #[derive(Debug, Drop)]

@@ -12,6 +12,7 @@ use crate::script::Script;
 use crate::state::Reader;
 use smc_lines::{Lines, LinesFault, MAX_LINES, read_lines};
 use smc_outside::Source;
+use smc_tbl::laws::what_is_spelled_fits;
 use smc_types::Catalog;
 use std::alloc::Global;
 
@@ -104,6 +105,8 @@ pub fn read_script<S: Source>(
     ensures failed { result ≡ Err ScriptFault.ReadFault → Rose (S.faults source.old) (S.faults source.new) }
     ensures later { S.faults source.old ≤ S.faults source.new }
 {
+    // What lines and fields spell fits their tables.
+    what_is_spelled_fits();
     let lines = match read_lines(alloc, source) {
         Ok(lines) => lines,
         Err(fault) => return Err(limit_fault(fault)),
@@ -114,15 +117,18 @@ pub fn read_script<S: Source>(
 #[cfg(test)]
 mod tests {
     use super::*;
+    use crate::name::FoldName;
     use smc_outside::MemSource;
     use smc_types::tpch;
     use std::test::Fail;
 
-    // The first refused line of a text and its kind, where it has one.
+    // The first refused line of a text and its kind, where it has one. There is one fold.
     fn refused(alloc: Global, text: &[u8]) -> Result<Option<ScriptFault>, Fail> {
         let mut source = MemSource::new(text.to_vec(alloc)?, 9, Vec::new(alloc));
         let catalog = tpch(alloc)?;
-        Ok(read_script(alloc, &mut source, &catalog, FoldNames::of(Vec::new(alloc))).err())
+        let mut folds = Vec::new(alloc);
+        folds.push(FoldName::of(alloc, "median")?)?;
+        Ok(read_script(alloc, &mut source, &catalog, FoldNames::of(folds)).err())
     }
 
     #[test]
@@ -150,6 +156,67 @@ mod tests {
                 Some((2, ScriptKind::Name)),
             ),
             (b"room region 64\nquery from region show count()\n", None),
+            (
+                b"room region 64\nadd region x 2|ASIA|c|\nget x\nset x regionkey 007\nremove x\nget x\n",
+                None,
+            ),
+            (
+                b"room region 64\nadd region abcdefghijklmn_6 2|a|c|\nget abcdefghijklmn_6\n",
+                None,
+            ),
+            (
+                b"room region 64\nadd region abcdefghijklmn_67 2|a|c|\n",
+                Some((2, ScriptKind::Grammar)),
+            ),
+            (b"add region x 2|a|c\n", Some((1, ScriptKind::Grammar))),
+            (b"add region x 2|a|c|\n", Some((1, ScriptKind::Name))),
+            (
+                b"room region 64\nadd region x 2|a|c|\nadd region x 3|b|c|\n",
+                Some((3, ScriptKind::Name)),
+            ),
+            (
+                b"room region 64\nget x\nadd region x 2|a|c|\n",
+                Some((2, ScriptKind::Name)),
+            ),
+            (b"get X\n", Some((1, ScriptKind::Grammar))),
+            (
+                b"room region 64\nadd region x 2|a|c|\nset x regionkey 1.5\n",
+                Some((3, ScriptKind::Grammar)),
+            ),
+            (
+                b"room region 64\nadd region x 2|a|c|\nset x name abcdefghijklmnopqrstuvwxyz\n",
+                Some((3, ScriptKind::Grammar)),
+            ),
+            (
+                b"room region 64\nadd region x 2|a|c|\nset x name abcdefghijklmnopqrstuvwxy\n",
+                Some((3, ScriptKind::Name)),
+            ),
+            (
+                b"room region 64\nadd region x 2|a|c|\nset x regionkeys 1.5\n",
+                Some((3, ScriptKind::Name)),
+            ),
+            (b"set y regionkey 1.5\n", Some((1, ScriptKind::Name))),
+            (b"set y regionkey\n", Some((1, ScriptKind::Grammar))),
+            (b"drop fold median\n", None),
+            (
+                b"drop fold median\ndrop fold median\n",
+                Some((2, ScriptKind::Name)),
+            ),
+            (b"drop fold medians\n", Some((1, ScriptKind::Name))),
+            (b"drop fold Median\n", Some((1, ScriptKind::Grammar))),
+            (b"drop folds median\n", Some((1, ScriptKind::Grammar))),
+            (
+                b"drop fold median\nroom region 64\n",
+                Some((2, ScriptKind::Room)),
+            ),
+            (
+                b"room region 64\nquery from region show fold median(regionkey)\ndrop fold median\n",
+                None,
+            ),
+            (
+                b"room region 64\ndrop fold median\nquery from region show fold median(regionkey)\n",
+                Some((3, ScriptKind::Name)),
+            ),
             (b"frob\n", Some((1, ScriptKind::Grammar))),
             (b"room region  64\n", Some((1, ScriptKind::Grammar))),
             (b"\xff\n", Some((1, ScriptKind::Grammar))),

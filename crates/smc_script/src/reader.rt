@@ -6,24 +6,30 @@ ghost use Rattle.smc_lines.specs.Ahead.{Counts};
 ghost use Rattle.smc_query.specs.Trees.{call_tree, query_tree, item_tree};
 ghost use Rattle.smc_shape.specs.declared.shape.TheConstants.{MAX_COLLS};
 ghost use Rattle.smc_script.specs.Faults as fault;
-ghost use Rattle.smc_script.specs.Faults.{LineGives, line_answer, is_placed, is_too_large, knows_call, knows_folds, name_fault, said_fault, taken};
+ghost use Rattle.smc_script.specs.Faults.{LineGives, fault_where, line_answer, is_given, is_left, is_placed, is_too_large, knows_call, knows_folds, said_fault, taken};
+ghost use Rattle.smc_query.specs.Trees.{Word};
 ghost use Rattle.smc_script.specs.Says as says;
 ghost use Rattle.smc_script.specs.Says.{said_tree};
 ghost use Rattle.smc_script.specs.States as state;
-ghost use Rattle.smc_script.specs.States.{after, colls_of, place_of, room_at, reading, script_of, start, with_command, with_room};
+ghost use Rattle.smc_script.specs.Names.{table_given};
+ghost use Rattle.smc_script.specs.States.{after, colls_of, place_named, place_of, room_at, reading, script_of, start, with_command, with_room};
+ghost use Rattle.smc_script.specs.Says.{kind_named};
+ghost use Rattle.smc_script.specs.Tables as spec;
 ghost use Rattle.smc_script.specs.Tables.{table_named};
 ghost use Rattle.smc_script.specs.Trees.{command_tree, script_tree};
 
 use crate::command::Command;
 use crate::fault::ScriptKind;
-use crate::name::FoldNames;
+use crate::name::{FoldName, FoldNames, ScriptName};
+use crate::names::Names;
 use crate::said::{Said, read_said};
 use crate::script::{Numbered, Part, Parts, Place, Room, Rooms, Script};
 use crate::state::{Asked, Phase, Reader};
-use crate::table::{table_named, table_width};
+use crate::table::{kind_of, may_write, table_named, table_width};
 use smc_lang::{Item, ItemCall, Query};
 use smc_shape::{CollShape, MAX_PASSES, Shape};
-use smc_types::Catalog;
+use smc_tokens::Name;
+use smc_types::{Catalog, Row, Value};
 use smc_words::NoMemory;
 use std::alloc::Global;
 
@@ -110,34 +116,53 @@ fn is_too_large(alloc: Global, catalog: &Catalog, rooms: &[Asked]) -> Result<boo
     }
 }
 
-// Whether a fold of this name was handed in.
-fn is_fold(folds: &FoldNames, name: &str) -> bool
+// Whether a fold has this name.
+fn has_fold(folds: &[FoldName], name: &str) -> bool
     ensures { result ≡ list_any (λ known. bytes_eq known name.now) folds.now }
 {
-    folds.as_slice().iter().any(|known| known.as_str() == name)
+    folds.iter().any(|known| known.as_str() == name)
 }
 
-fn knows_call(folds: &FoldNames, call: &ItemCall) -> bool
-    ensures { result ≡ knows_call folds.now (call_tree call.now) }
+// Whether a fold of this name was handed in, and none of this name dropped.
+fn is_left(folds: &FoldNames, dropped: &[FoldName], name: &str) -> bool
+    ensures { result ≡ is_left folds.now dropped.now name.now }
+{
+    has_fold(folds.as_slice(), name) & !has_fold(dropped, name)
+}
+
+fn knows_call(folds: &FoldNames, dropped: &[FoldName], call: &ItemCall) -> bool
+    ensures { result ≡ knows_call folds.now dropped.now (call_tree call.now) }
 {
     match call {
-        ItemCall::Fold { name, .. } => is_fold(folds, name.as_str()),
+        ItemCall::Fold { name, .. } => is_left(folds, dropped, name.as_str()),
         _ => true,
     }
 }
 
-// Whether each fold of these columns was handed in.
-fn knows_items(folds: &FoldNames, items: &[Item]) -> bool
-    ensures { result ≡ list_all (λ item. knows_call folds.now (call_tree item.call)) items.now }
+// Whether each fold of these columns is left.
+fn knows_items(folds: &FoldNames, dropped: &[FoldName], items: &[Item]) -> bool
+    ensures { result ≡ list_all (λ item. knows_call folds.now dropped.now (call_tree item.call)) items.now }
 {
-    items.iter().all(|item| knows_call(folds, &item.call))
+    items
+        .iter()
+        .all(|item| knows_call(folds, dropped, &item.call))
 }
 
-// Whether each fold of the query was handed in.
-fn knows_folds(folds: &FoldNames, query: &Query) -> bool
-    ensures { result ≡ knows_folds folds.now (query_tree query.now).items }
+// Whether each fold of the query is left.
+fn knows_folds(folds: &FoldNames, dropped: &[FoldName], query: &Query) -> bool
+    ensures { result ≡ knows_folds folds.now dropped.now (query_tree query.now).items }
 {
-    knows_items(folds, query.items.as_slice())
+    knows_items(folds, dropped, query.items.as_slice())
+}
+
+// The kind of a line whose names are not all good.
+fn name_fault(good: bool) -> Option<ScriptKind>
+    ensures { result ≡ fault_where (not good) ScriptKind.Name }
+{
+    if good {
+        return None;
+    }
+    Some(ScriptKind::Name)
 }
 
 impl Reader {
@@ -150,6 +175,8 @@ impl Reader {
         Reader {
             phase: Phase::Asking,
             rooms: Vec::new(alloc),
+            names: Names::new(alloc),
+            dropped: Vec::new(alloc),
             parts: Vec::new(alloc),
         }
     }
@@ -177,32 +204,39 @@ impl Reader {
         Ok(None)
     }
 
-    fn table_fault(&self, table: u32) -> Option<ScriptKind>
-        ensures { result ≡ fault.fault_where (not (fault.has_room self.now.rooms.items table)) ScriptKind.Name }
+    // Whether the name was given to an object of a table with a room.
+    fn is_given(&self, name: &ScriptName) -> bool
+        ensures { result ≡ is_given (reading self.now) name.now }
     {
-        if has_room(&self.rooms, table) {
-            return None;
-        }
-        Some(ScriptKind::Name)
-    }
-
-    // Whether the query is over a table with a room, and its folds were handed in.
-    fn is_known(&self, catalog: &Catalog, folds: &FoldNames, query: &Query) -> bool
-        ensures { result ≡ (is_placed self.now.rooms.items (table_named catalog.now query.now.table) && knows_folds folds.now (query_tree query.now).items) }
-    {
-        match table_named(catalog, query.table.as_str()) {
-            Some(table) => has_room(&self.rooms, table) & knows_folds(folds, query),
+        match self.names.table(name.as_str()) {
+            Some(table) => has_room(&self.rooms, table),
             None => false,
         }
     }
 
-    fn query_fault(&self, catalog: &Catalog, folds: &FoldNames, query: &Query) -> Option<ScriptKind>
-        ensures { result ≡ name_fault catalog.now folds.now (reading self.now) (says.query (query_tree query.now)) }
+    // Whether the name is new, and the table of its object has a room.
+    fn is_new(&self, table: u32, name: &ScriptName) -> bool
+        ensures { result ≡ (fault.has_room self.now.rooms.items table && not (is_some (table_given self.now.names name.now))) }
     {
-        if self.is_known(catalog, folds, query) {
-            return None;
+        has_room(&self.rooms, table) & self.names.table(name.as_str()).is_none()
+    }
+
+    // Whether the named object was given, and has a column of this name that may be written.
+    fn may_set(&self, catalog: &Catalog, name: &ScriptName, column: &Name) -> bool
+        ensures { result ≡ (is_given (reading self.now) name.now && spec.may_write (kind_named catalog.now self.now.names name.now column.now)) }
+    {
+        let kind = kind_of(catalog, self.names.table(name.as_str()), column.as_str());
+        self.is_given(name) & may_write(kind)
+    }
+
+    // Whether the query is over a table with a room, and its folds are left.
+    fn is_known(&self, catalog: &Catalog, folds: &FoldNames, query: &Query) -> bool
+        ensures { result ≡ (is_placed self.now.rooms.items (table_named catalog.now query.now.table) && knows_folds folds.now self.now.dropped.items (query_tree query.now).items) }
+    {
+        match table_named(catalog, query.table.as_str()) {
+            Some(table) => has_room(&self.rooms, table) & knows_folds(folds, &self.dropped, query),
+            None => false,
         }
-        Some(ScriptKind::Name)
     }
 
     // The kind of a line that says this.
@@ -217,10 +251,19 @@ impl Reader {
     {
         match said {
             Said::Room { table, slots } => self.room_fault(alloc, catalog, *table, *slots),
-            Said::Load { table, .. } => Ok(self.table_fault(*table)),
-            Said::Query { query } => Ok(self.query_fault(catalog, folds, query)),
-            Said::Compact { table } => Ok(self.table_fault(*table)),
-            Said::Stat { table } => Ok(self.table_fault(*table)),
+            Said::Load { table, .. } => Ok(name_fault(has_room(&self.rooms, *table))),
+            Said::Add { table, name, .. } => Ok(name_fault(self.is_new(*table, name))),
+            Said::Get { name } => Ok(name_fault(self.is_given(name))),
+            Said::Set { name, column, .. } => {
+                Ok(name_fault(self.may_set(catalog, name, column)))
+            }
+            Said::Remove { name } => Ok(name_fault(self.is_given(name))),
+            Said::Query { query } => Ok(name_fault(self.is_known(catalog, folds, query))),
+            Said::Compact { table } => Ok(name_fault(has_room(&self.rooms, *table))),
+            Said::Stat { table } => Ok(name_fault(has_room(&self.rooms, *table))),
+            Said::DropFold { name } => {
+                Ok(name_fault(is_left(folds, &self.dropped, name.as_str())))
+            }
         }
     }
 
@@ -260,6 +303,65 @@ impl Reader {
         }
     }
 
+    // The place of the object with this name.
+    fn place_named(&self, name: &ScriptName) -> Place
+        ensures { result ≡ place_named (reading self.now) name.now }
+    {
+        match self.names.table(name.as_str()) {
+            Some(table) => self.place(table),
+            None => self.place(0),
+        }
+    }
+
+    // Takes a row to be added, whose name is given from here on.
+    fn take_add(
+        &mut self,
+        alloc: Global,
+        line: u64,
+        table: u32,
+        name: ScriptName,
+        row: Row,
+    ) -> Result<(), NoMemory>
+        ensures { OnOk result ((catalog : _) → reading self.new ≡ after catalog (reading self.old) line (says.add table name row)) }
+    {
+        self.names.give(alloc, name.as_str(), table)?;
+        let place = self.place(table);
+        self.take_command(line, Command::Add { place, name, row })
+    }
+
+    // Takes the dropping of a fold, which is known no more from here on.
+    fn take_drop(&mut self, alloc: Global, line: u64, name: FoldName) -> Result<(), NoMemory>
+        ensures { OnOk result ((catalog : _) → reading self.new ≡ after catalog (reading self.old) line (says.drop_fold name)) }
+    {
+        self.dropped.push(FoldName::of(alloc, name.as_str())?)?;
+        self.take_command(line, Command::DropFold { name })
+    }
+
+    // Takes a value to be set, where there is one.
+    fn take_set(
+        &mut self,
+        line: u64,
+        name: ScriptName,
+        column: Name,
+        value: Option<Value>,
+    ) -> Result<(), NoMemory>
+        ensures { OnOk result ((catalog : _) → reading self.new ≡ after catalog (reading self.old) line (says.set name column value)) }
+    {
+        let Some(value) = value else {
+            return Ok(());
+        };
+        let place = self.place_named(&name);
+        self.take_command(
+            line,
+            Command::Set {
+                place,
+                name,
+                column,
+                value,
+            },
+        )
+    }
+
     // Takes a line that says this.
     fn take(
         &mut self,
@@ -277,6 +379,20 @@ impl Reader {
                 place: self.place(table),
                 file,
             },
+            Said::Add { table, name, row } => return self.take_add(alloc, line, table, name, row),
+            Said::Get { name } => Command::Get {
+                place: self.place_named(&name),
+                name,
+            },
+            Said::Set {
+                name,
+                column,
+                value,
+            } => return self.take_set(line, name, column, value),
+            Said::Remove { name } => Command::Remove {
+                place: self.place_named(&name),
+                name,
+            },
             Said::Query { query } => Command::Query {
                 place: self.query_place(catalog, &query),
                 query,
@@ -287,6 +403,7 @@ impl Reader {
             Said::Stat { table } => Command::Stat {
                 place: self.place(table),
             },
+            Said::DropFold { name } => return self.take_drop(alloc, line, name),
         };
         self.take_command(line, command)
     }
@@ -321,7 +438,7 @@ impl Reader {
         requires { Counts text.now }
         ensures { IfOk result (λ kind. LineGives catalog.now folds.now (reading self.old) line text.now (line_answer kind (reading self.new))) }
     {
-        match read_said(alloc, catalog, text) {
+        match read_said(alloc, catalog, &self.names, text) {
             Ok(Some(said)) => self.said_line(alloc, catalog, folds, line, said),
             Ok(None) => Ok(Some(ScriptKind::Grammar)),
             Err(fault) => Err(fault),

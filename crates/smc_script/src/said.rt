@@ -1,21 +1,26 @@
-//! What a line says, whatever went before it.
-ghost use Rattle.std.specs.Prelude.{◌≡◌, ◌≢◌, ◌∷◌, ℕ, List, codes, true, IfOk, IfSome, IfNone, option_map};
+//! What a line says, by the names that were given before it and by nothing else that went before.
+ghost use Rattle.std.specs.Prelude.{◌≡◌, ◌&&◌, ℕ, true, codes, bytes_eq, IfOk, option_map};
 ghost use Rattle.std.specs.Char.{is_ascii_digit};
 ghost use Rattle.std.specs.List.{list_all};
 ghost use Rattle.smc_lines.specs.Numbers.{is_number};
 ghost use Rattle.smc_lines.specs.Words.{words};
+ghost use Rattle.smc_query.specs.Trees.{Word};
+ghost use Rattle.smc_script.specs.Names as naming;
 ghost use Rattle.smc_script.specs.Says as spec;
-ghost use Rattle.smc_script.specs.declared.said.Said.TheVariants as said;
-ghost use Rattle.smc_script.specs.Says.{IsQueryRead, IsSaid, IsSaidBehind, SaidTree, load_said, room_said, said_tree, slots_asked, slots_within, table_said, verb_said, words_said};
+ghost use Rattle.smc_script.specs.Says.{IsSaid, IsSaidBy, SaidTree, compact, drop_said, get, load_said, name_said, remove, room_said, said_tree, stat, slots_asked, slots_within, table_said};
 
 use crate::limits::{MAX_DIGITS, MAX_FILE, MAX_SLOTS};
-use crate::name::FileName;
+use crate::name::{FileName, FoldName, ScriptName, is_script_name};
+use crate::names::Names;
+use crate::query::say_query;
+use crate::row::{say_add, say_set};
 use crate::table::table_named;
-use smc_lang::laws::one_thing;
-use smc_lang::{ParseFault, Query, parse};
+use crate::verb::{Verb, verb_of};
 use smc_lines::{Words, read_number, split_word};
+use smc_query::Query;
 use smc_shape::BLOCK_SLOTS;
-use smc_types::Catalog;
+use smc_tokens::Name;
+use smc_types::{Catalog, Row, Value};
 use smc_words::NoMemory;
 use std::alloc::Global;
 
@@ -23,11 +28,43 @@ use std::alloc::Global;
 #[derive(Debug, Drop)]
 pub enum Said {
     /// A room for this table, with so many slots in whole blocks; with none where their number is out of range.
-    Room { table: u32, slots: Option<u32> },
-    Load { table: u32, file: FileName },
-    Query { query: Query },
-    Compact { table: u32 },
-    Stat { table: u32 },
+    Room {
+        table: u32,
+        slots: Option<u32>,
+    },
+    Load {
+        table: u32,
+        file: FileName,
+    },
+    Add {
+        table: u32,
+        name: ScriptName,
+        row: Row,
+    },
+    Get {
+        name: ScriptName,
+    },
+    /// A value of the column, where the named object has such a column.
+    Set {
+        name: ScriptName,
+        column: Name,
+        value: Option<Value>,
+    },
+    Remove {
+        name: ScriptName,
+    },
+    Query {
+        query: Query,
+    },
+    Compact {
+        table: u32,
+    },
+    Stat {
+        table: u32,
+    },
+    DropFold {
+        name: FoldName,
+    },
 }
 
 // Printable ASCII other than the space.
@@ -139,107 +176,107 @@ fn read_table(catalog: &Catalog, mut words: Words<'_>) -> Option<u32>
     table_named(catalog, table)
 }
 
-// What a verb and the words behind it say, for the commands that are words alone.
-fn read_verb(
-    alloc: Global,
-    catalog: &Catalog,
-    verb: &str,
-    words: Words<'_>,
-) -> Result<Option<Said>, NoMemory>
-    ensures { IfOk result (λ said. option_map said_tree said ≡ verb_said catalog.now verb.now words.entry) }
+// NAME
+fn read_name(alloc: Global, mut words: Words<'_>) -> Result<Option<ScriptName>, NoMemory>
+    ensures { (say : Word → SaidTree) → IfOk result (λ name. option_map say name ≡ name_said say words.entry) }
 {
-    if verb == "room" {
-        return Ok(read_room(catalog, words));
-    }
-    if verb == "load" {
-        return read_load(alloc, catalog, words);
-    }
-    if verb == "compact" {
-        return Ok(read_table(catalog, words).map(|table| Said::Compact { table }));
-    }
-    if verb == "stat" {
-        return Ok(read_table(catalog, words).map(|table| Said::Stat { table }));
-    }
-    Ok(None)
-}
-
-// What the words of a line say.
-fn read_words(alloc: Global, catalog: &Catalog, line: &str) -> Result<Option<Said>, NoMemory>
-    ensures { IfOk result (λ said. option_map said_tree said ≡ words_said catalog.now (words line.now)) }
-{
-    let mut words = Words::of(line);
-    let Some(verb) = words.next_word() else {
+    let (Some(name), None) = (words.next_word(), words.next_word()) else {
         return Ok(None);
     };
-    read_verb(alloc, catalog, verb, words)
-}
-
-// The text behind the word `query`.
-fn query_text(line: &str) -> Option<&str>
-    ensures some { IfSome result (λ text. words line.now ≡ codes "query" ∷ words text.now) }
-    ensures none { IfNone result ((text : List ℕ) → words line.now ≢ codes "query" ∷ words text) }
-{
-    let (verb, behind) = split_word(line);
-    if verb == "query" {
-        return behind;
+    if !is_script_name(name) {
+        return Ok(None);
     }
-    None
+    Ok(Some(ScriptName::of(alloc, name)?))
 }
 
-// Whether memory was refused; any other fault is one of the text.
-fn is_memory(fault: ParseFault) -> bool
-    ensures { result ≡ spec.is_memory fault }
+// NAME
+fn say_get(alloc: Global, text: &str) -> Result<Option<Said>, NoMemory>
+    ensures { IfOk result (λ said. option_map said_tree said ≡ name_said get (words text.now)) }
 {
-    match fault {
-        ParseFault::NoMemory => true,
-        _ => false,
-    }
+    Ok(read_name(alloc, Words::of(text))?.map(|name| Said::Get { name }))
 }
 
-// The query of a text.
-fn read_query(alloc: Global, text: &str) -> Result<Option<Query>, NoMemory>
-    ensures { IfOk result (IsQueryRead text.now) }
+// NAME
+fn say_remove(alloc: Global, text: &str) -> Result<Option<Said>, NoMemory>
+    ensures { IfOk result (λ said. option_map said_tree said ≡ name_said remove (words text.now)) }
 {
-    // A text that is wrong somewhere is no query.
-    one_thing();
-    let fault = match parse(alloc, text) {
-        Ok(query) => return Ok(Some(query)),
-        Err(fault) => fault,
+    Ok(read_name(alloc, Words::of(text))?.map(|name| Said::Remove { name }))
+}
+
+// TABLE
+fn say_compact(catalog: &Catalog, text: &str) -> Option<Said>
+    ensures { option_map said_tree result ≡ table_said compact catalog.now (words text.now) }
+{
+    read_table(catalog, Words::of(text)).map(|table| Said::Compact { table })
+}
+
+// TABLE
+fn say_stat(catalog: &Catalog, text: &str) -> Option<Said>
+    ensures { option_map said_tree result ≡ table_said stat catalog.now (words text.now) }
+{
+    read_table(catalog, Words::of(text)).map(|table| Said::Stat { table })
+}
+
+fn is_drop(word: &str, name: &str) -> bool
+    ensures { result ≡ (bytes_eq word.now (codes "fold") && naming.is_script_name name.now) }
+{
+    (word == "fold") & is_script_name(name)
+}
+
+// fold NAME
+fn read_drop(alloc: Global, mut words: Words<'_>) -> Result<Option<Said>, NoMemory>
+    ensures { IfOk result (λ said. option_map said_tree said ≡ drop_said words.entry) }
+{
+    let (Some(word), Some(name), None) = (words.next_word(), words.next_word(), words.next_word())
+    else {
+        return Ok(None);
     };
-    if is_memory(fault) {
-        return Err(NoMemory);
+    if !is_drop(word, name) {
+        return Ok(None);
     }
-    Ok(None)
+    let name = FoldName::of(alloc, name)?;
+    Ok(Some(Said::DropFold { name }))
 }
 
-// The query that was read, as what a line says.
-fn query_said(found: Option<Query>) -> Option<Said>
-    ensures { result ≡ option_map (λ query. said.Query query) found }
+// What the text behind the word of a command says.
+fn read_behind(
+    alloc: Global,
+    catalog: &Catalog,
+    names: &Names,
+    verb: Verb,
+    text: &str,
+) -> Result<Option<Said>, NoMemory>
+    ensures { IfOk result (IsSaidBy catalog.now names.now verb text.now) }
 {
-    match found {
-        Some(query) => Some(Said::Query { query }),
-        None => None,
+    match verb {
+        Verb::Room => Ok(read_room(catalog, Words::of(text))),
+        Verb::Load => read_load(alloc, catalog, Words::of(text)),
+        Verb::Add => say_add(alloc, catalog, text),
+        Verb::Get => say_get(alloc, text),
+        Verb::Set => say_set(alloc, catalog, names, text),
+        Verb::Remove => say_remove(alloc, text),
+        Verb::Query => say_query(alloc, text),
+        Verb::Compact => Ok(say_compact(catalog, text)),
+        Verb::Stat => Ok(say_stat(catalog, text)),
+        Verb::Drop => read_drop(alloc, Words::of(text)),
     }
-}
-
-// What each line says that is the word `query` and this text.
-fn say_query(alloc: Global, text: &str) -> Result<Option<Said>, NoMemory>
-    ensures { IfOk result (IsSaidBehind text.now) }
-{
-    let found = match read_query(alloc, text) {
-        Ok(found) => found,
-        Err(fault) => return Err(fault),
-    };
-    Ok(query_said(found))
 }
 
 /// What a line says; `None` where it is no command.
-pub fn read_said(alloc: Global, catalog: &Catalog, line: &str) -> Result<Option<Said>, NoMemory>
-    ensures { IfOk result (IsSaid catalog.now line.now) }
+pub fn read_said(
+    alloc: Global,
+    catalog: &Catalog,
+    names: &Names,
+    line: &str,
+) -> Result<Option<Said>, NoMemory>
+    ensures { IfOk result (IsSaid catalog.now names.now line.now) }
 {
-    let text = match query_text(line) {
-        Some(text) => text,
-        None => return read_words(alloc, catalog, line),
+    let (word, behind) = split_word(line);
+    let Some(text) = behind else {
+        return Ok(None);
     };
-    say_query(alloc, text)
+    let Some(verb) = verb_of(word) else {
+        return Ok(None);
+    };
+    read_behind(alloc, catalog, names, verb, text)
 }

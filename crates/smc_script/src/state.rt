@@ -2,6 +2,8 @@
 ghost use Rattle.std.specs.Prelude.{◌≤◌, length};
 ghost use Rattle.smc_shape.specs.declared.shape.TheConstants.{MAX_COLLS};
 
+use crate::name::FoldName;
+use crate::names::Names;
 use crate::script::Part;
 
 /// Whether rooms may still be asked for.
@@ -26,6 +28,9 @@ pub struct Reader {
     pub phase: Phase,
     /// In the order of the tables' numbers.
     pub rooms: Vec<Asked>,
+    pub names: Names,
+    /// The folds that were dropped.
+    pub dropped: Vec<FoldName>,
     pub parts: Vec<Part>,
     ghost few: { length rooms.items ≤ MAX_COLLS },
 }

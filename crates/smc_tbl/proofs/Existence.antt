@@ -27,7 +27,7 @@ Either P = P ⊎ ¬ P
 short_or_not : (line : List ℕ) → Either (IsShort line)
 short_or_not line = elim (cases_lt MAX_LINE (length line)) [ inl long ↦ inr (λ short. omega arith) | inr short ↦ inl short ]
 
-text_or_not : (line : List ℕ) → Either (IsText line)
+pub text_or_not : (line : List ℕ) → Either (IsText line)
 text_or_not line =
     elim (cases_Bool (list_all is_text_byte line)) [
       | inr other ↦ inr (λ text. false≢true (sym other ∙ text.bytes))

@@ -13,6 +13,7 @@ pub mod ValueCases
 pub mod Existence
 pub mod PrintLaws
 pub mod FitLaws
+pub mod AloneLaws
 pub mod RespellLaws
 pub mod RoundTrip
 pub mod LengthLaws

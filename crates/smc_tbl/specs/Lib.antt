@@ -1,3 +1,4 @@
+pub mod Alone
 pub mod Column
 pub mod Fields
 pub mod Printed

@@ -8,9 +8,9 @@
 //!
 //! Callers may rely on it that a row is read exactly where a line spells it, that a fault is the first of its line, that
 //! a row which was read fits the columns of its table, and that words which were read are those of such a row.
-//! `specs/Fields.antt` defines what a field spells, `TableText.antt` what a line gives, `Words.antt` the same in words,
-//! `Reading.antt` and `Reader.antt` what was taken of a text, and `Printed.antt` the one text of a row with its greatest
-//! length.
+//! `specs/Fields.antt` defines what a field spells, `Alone.antt` the same of a field on its own, `TableText.antt` what a
+//! line gives, `Words.antt` the same in words, `Reading.antt` and `Reader.antt` what was taken of a text, and `Printed.antt`
+//! the one text of a row with its greatest length.
 #![tactic(auto)]
 
 mod buffer;
@@ -32,6 +32,7 @@ mod word_lines;
 mod words;
 
 pub use fault::TblFault;
+pub use fields::read_field;
 pub use grammar::read_row;
 pub use lines::{Lines, next_row};
 pub use print::print_row;

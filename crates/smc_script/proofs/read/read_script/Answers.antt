@@ -29,4 +29,5 @@ returns-clause-failed g c is = absurd (inside-only c.script_of_lines.result c.sc
 
 pub returns-clause-sound : goal.returns-clause-sound
 returns-clause-sound g c =
-    answer-sound c.args.catalog.now c.args.folds c.in-Ok.lines c.script_of_lines.result c.script_of_lines.ensures.gives
+    answer-sound (record { row = c.what_is_spelled_fits.ensures.row; texts = c.what_is_spelled_fits.ensures.texts; value = c.what_is_spelled_fits.ensures.value })
+    c.args.catalog.now c.args.folds c.in-Ok.lines c.script_of_lines.result c.script_of_lines.ensures.gives

@@ -9,5 +9,5 @@ use Rattle.smc_script.proofs.reader.knows_folds.Goals as goal
 pub returns : goal.returns
 returns c =
     c.knows_items.ensures
-    ∙ ap (λ (items : List Item). list_all (λ item. knows_call c.args.folds.now (call_tree item.call)) items) c.as_slice.ensures
-    ∙ sym (list_all-map (λ item. knows_call c.args.folds.now item.call) item_tree c.args.query.now.items)
+    ∙ ap (λ (items : List Item). list_all (λ item. knows_call c.args.folds.now c.args.dropped.now (call_tree item.call)) items) c.as_slice.ensures
+    ∙ sym (list_all-map (λ item. knows_call c.args.folds.now c.args.dropped.now item.call) item_tree c.args.query.now.items)
