@@ -1,3 +1,5 @@
+pub mod ColumnLaws
 pub mod CountLaws
+pub mod NameLaws
 pub mod ObjectLaws
 pub mod RunLaws

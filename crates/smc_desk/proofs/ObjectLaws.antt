@@ -53,8 +53,8 @@ module _ {E : Type 0} where
       → IfOk reply (λ text. DoesSome old new (λ calls. AddsBy by place name values known now calls text))
   adds-full by schema place name values words known now old new (Ok text) is are ends names says =
       let done = subst (λ (w : List ℕ). RowEnds (Err row.Full) schema place.table place.coll known.keys now.keys w old new) are ends in
-      (done.1, done.2, subst (λ (s : Option Schema). AddsBy s place name values known now done.1 text) (sym is)
-      (inr (record { refuses = done.3; keys = done.0; names = names; reply = says })))
+      (done.1.0, done.1.1, subst (λ (s : Option Schema). AddsBy s place name values known now done.1.0 text) (sym is)
+      (inr (record { refuses = done.1.2; keys = done.0; names = names; reply = says })))
   adds-full by schema place name values words known now old new (Err fault) is are ends names says = tt
 
   -- ---- get, set, remove

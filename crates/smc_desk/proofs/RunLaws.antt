@@ -76,7 +76,7 @@ module _ (known : Books) where
   -- a front of what all parts print is a front of what the first of them do
   pub front-of-all : (parts : List PartTree) (calls : List CallEnd) (a b : Option (List ℕ)) → RepliesAll parts known calls a b → RepliesFront parts known calls a b
   front-of-all parts calls a b all =
-      (length parts, all.0, subst (λ x. Replies AppendsFront x known all.0 calls a b) (sym (take_all (length parts) parts (omega arith))) (all.1, all.2, front-all a b all.1 all.3))
+      (length parts, all.0, subst (λ x. Replies AppendsFront x known all.0 calls a b) (sym (take_all (length parts) parts (omega arith))) (all.1.0, all.1.1, front-all a b all.1.0 all.1.2))
 
   -- the parts end with one that did not go on
   pub ends-within : (status : RunEnd) (all : List PartTree) (count : ℕ) (part : PartTree) (now next : Books) (first middle last : Caller) (a b c : Option (List ℕ))
@@ -121,5 +121,5 @@ no-parts [] all = refl
 no-parts (part ∷ later) all = absurd (cannot part all.0)
 
 pub nothing-to-run : (rooms : List Room) (parts : List PartTree) (a : Option (List ℕ)) → length rooms ≡ 0 → AllByRecursion (CanRunPart (shape_asked rooms)) parts → RunsAs (Closes rooms) Done parts None a a
-nothing-to-run [] parts a none may = subst (λ (ps : List PartTree). RunsAs (Closes []) Done ps None a a) (sym (no-parts parts may)) ([], (no_books, [], (refl, refl, refl), Appends-nil a), refl)
+nothing-to-run [] parts a none may = subst (λ (ps : List PartTree). RunsAs (Closes []) Done ps None a a) (sym (no-parts parts may)) ([], (no_books, ([], (refl, refl, refl), Appends-nil a)), refl)
 nothing-to-run (room ∷ later) parts a none may = absurd (omega arith)

@@ -10,6 +10,7 @@ ghost use Rattle.smc_script.specs.Trees.{numbered_tree, part_tree, script_tree};
 ghost use Rattle.smc_script.specs.Trees as trees;
 ghost use Rattle.smc_region.specs.Reached.{IsReached};
 ghost use Rattle.smc_core.specs.declared.section.TheConstants.{FIRST_EPOCH};
+ghost use Rattle.smc_replies.specs.Books.{no_books};
 ghost use Rattle.smc_replies.specs.Scripts.{CanRunPart};
 ghost use Rattle.smc_desk.specs.Runs.{HasClosed, MayOpen, PartEnds, PartsEnd, Writes, RunsAs, RunsTo, colls_asked, seen, shape_asked};
 
@@ -165,6 +166,28 @@ fn run_parts<O: Sink>(
     (pass, RunEnd::Done)
 }
 
+// Runs the parts of a whole script, before which nothing is known.
+fn run_all<O: Sink>(
+    alloc: Global,
+    parts: &[Part],
+    catalog: &Catalog,
+    pass: Pass,
+    region: &Region,
+    out: &mut O,
+) -> (Pass, RunEnd)
+    requires here { IsPassOf region.now pass }
+    requires free { OwnsNone pass }
+    requires tables { catalog.now ≡ the_tables }
+    requires may { AllByRecursion (CanRunPart region.now.about.shape) (map part_tree parts.now) }
+    ensures home { IsSame pass result.0 × OwnsNone result.0 }
+    ensures ends { PartsEnd result.1 (map part_tree parts.now) no_books pass result.0 (O.held out.old) (O.held out.new) }
+    ensures cause { result.1 ≡ RunEnd.WriteFault → Rose (O.faults out.old) (O.faults out.new) }
+    ensures later { O.faults out.old ≤ O.faults out.new }
+{
+    let mut books = Books::new(alloc);
+    run_parts(alloc, parts, catalog, &mut books, pass, region, out)
+}
+
 // A region without objects, and its one pass. The vector has room for that pass.
 fn open_region(alloc: Global, shape: Shape) -> Result<(Region, Pass, Vec<Pass>), NoMemory>
     requires { shape.passes ≡ 1 }
@@ -207,8 +230,7 @@ fn run_in<O: Sink>(alloc: Global, catalog: &Catalog, shape: Shape, parts: &[Part
     let Ok((region, pass, passes)) = open_region(alloc, shape) else {
         return Ran::without(RunEnd::NoMemory);
     };
-    let mut books = Books::new(alloc);
-    let (pass, end) = run_parts(alloc, parts, catalog, &mut books, pass, &region, out);
+    let (pass, end) = run_all(alloc, parts, catalog, pass, &region, out);
     if matches!(end, RunEnd::NoMemory) {
         return Ran::without(RunEnd::NoMemory);
     }

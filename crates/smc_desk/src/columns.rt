@@ -1,11 +1,10 @@
 //! Rows and values as the words of their columns.
 ghost use Rattle.std.specs.Prelude.{◌≡◌, ◌<◌, ◌∷◌, [], IfOk, IsTrue, None, true};
 ghost use Rattle.smc_words.specs.declared.layout.TheConstants.{BLANK};
-ghost use Rattle.smc_types.specs.Columns as columns;
+ghost use Rattle.smc_types.specs.Columns as kinds;
 ghost use Rattle.smc_types.specs.Faults.{value_fault};
 ghost use Rattle.smc_types.specs.Records.{value_words};
 ghost use Rattle.smc_types.specs.Schemas.{files_first};
-ghost use Rattle.smc_script.specs.Tables as tables;
 ghost use Rattle.smc_script.specs.Tables.{is_editable};
 ghost use Rattle.smc_replies.specs.Objects as objects;
 
@@ -15,7 +14,7 @@ use std::alloc::Global;
 
 // How many of the columns are references.
 fn reference_count(columns: &[Column]) -> usize
-    ensures { result ≡ columns.reference_count columns.now }
+    ensures { result ≡ kinds.reference_count columns.now }
 {
     columns
         .iter()
@@ -36,15 +35,6 @@ pub(crate) fn words_of(alloc: Global, row: &Row, schema: &Schema) -> Result<Vec<
     // The references stand last.
     words.truncate(words.len() - count);
     Ok(words)
-}
-
-/// Where the column of this name stands among the columns.
-pub(crate) fn column_at(columns: &[Column], name: &str) -> Option<usize>
-    ensures { result ≡ tables.column_at columns.now name.now }
-{
-    columns
-        .iter()
-        .position(|column| !column.kind.is_reference() && column.name.as_str() == name)
 }
 
 /// The word of a value in a column of numbers or days.

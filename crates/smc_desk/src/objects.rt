@@ -4,20 +4,21 @@ ghost use Rattle.smc_words.specs.declared.number.Number.{Number};
 ghost use Rattle.smc_region.specs.Callers.{IsPassOf, IsSame};
 ghost use Rattle.smc_does.specs.Does.{DoesSome, OwnsNone};
 ghost use Rattle.smc_types.specs.Tables.{the_tables};
+ghost use Rattle.smc_script.specs.Sound.{FitsColumn, FitsTable};
 ghost use Rattle.smc_script.specs.Tables as tables;
 ghost use Rattle.smc_replies.specs.Books.{object_of, with_name};
-ghost use Rattle.smc_replies.specs.Commands.{FitsColumn, FitsTable, IsTableOf};
+ghost use Rattle.smc_replies.specs.Commands.{IsTableOf};
 ghost use Rattle.smc_replies.specs.Objects.{AddsBy, GetsBy, OnObject, RemovesNamed, SetsBy, add_line};
 ghost use Rattle.smc_desk.specs.Runs.{seen};
 
 use crate::books::{Books, Names};
-use crate::columns::{column_at, word_of, words_of};
+use crate::columns::{word_of, words_of};
 use crate::reply::{Reply, add_reply, found_reply, null_reply, object_reply};
 use crate::tables::schema_of;
 use smc_load::{RowFault, load_row, place_of};
 use smc_objects::{read_one, remove_one, set_one};
 use smc_region::{Pass, Region};
-use smc_script::{Place, ScriptName};
+use smc_script::{Place, ScriptName, column_at};
 use smc_tokens::Name;
 use smc_types::{Catalog, Row, Value};
 use smc_words::{NoMemory, Number};
@@ -51,7 +52,7 @@ pub(crate) fn add(
     requires here { IsPassOf region.now pass }
     requires tables { catalog.now ≡ the_tables }
     requires table { IsTableOf region.now.about.shape place }
-    requires row { FitsTable place.table row.now }
+    requires row { FitsTable the_tables place.table row.now }
     ensures done { IfOk result.1 (λ reply. DoesSome pass result.0 (λ calls.
         AddsBy (tables.schema_of the_tables place.table) place name.now row.now (seen books.old) (seen books.new) calls reply)) }
     ensures home { IsSame pass result.0 × (OwnsNone pass → OwnsNone result.0) }
@@ -141,7 +142,7 @@ fn set_object(
     requires here { IsPassOf region.now pass }
     requires tables { catalog.now ≡ the_tables }
     requires table { IsTableOf region.now.about.shape place }
-    requires value { FitsColumn place.table column.now value.now }
+    requires value { FitsColumn the_tables place.table column.now value.now }
     requires coll { number.coll ≡ place.coll }
     ensures done { IfOk result.1 (λ reply. DoesSome pass result.0 (λ calls.
         SetsBy (tables.schema_of the_tables place.table) column.now value.now number calls reply)) }
@@ -155,7 +156,7 @@ fn set_object(
         unreachable!();
     };
     let word = word_of(columns[at].kind, value);
-    let (pass, found) = set_one(pass, region, number, place_of(columns, at as u32), word);
+    let (pass, found) = set_one(pass, region, number, place_of(columns, at), word);
     (pass, found_reply(alloc, found, "set\n"))
 }
 
@@ -174,7 +175,7 @@ pub(crate) fn set(
     requires here { IsPassOf region.now pass }
     requires tables { catalog.now ≡ the_tables }
     requires table { IsTableOf region.now.about.shape place }
-    requires value { FitsColumn place.table column.now value.now }
+    requires value { FitsColumn the_tables place.table column.now value.now }
     ensures done { IfOk result.1 (λ reply. DoesSome pass result.0 (λ calls.
         OnObject (object_of books.now.names place.coll name.now) (SetsBy (tables.schema_of the_tables place.table) column.now value.now) calls reply)) }
     ensures home { IsSame pass result.0 × (OwnsNone pass → OwnsNone result.0) }

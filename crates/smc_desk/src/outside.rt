@@ -139,7 +139,8 @@ pub fn is_known(c: &Command) -> bool
     match c {
         Command::Stat { .. } => true,
         Command::Query { query, .. } => counts_all(query),
-        Command::Compact { .. } => true,
+        Command::Compact { .. } | Command::Add { .. } | Command::Get { .. } => true,
+        Command::Set { .. } | Command::Remove { .. } => true,
         _ => false,
     }
 }

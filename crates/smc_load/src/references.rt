@@ -79,16 +79,16 @@ fn key_at(words: &[u64], columns: &[Column], by: u32) -> u64
     requires { columns_width columns.now ≤ WIDTH_MAX }
     ensures { result ≡ loading.key_at columns.now words.now by }
 {
-    let place = place_of(columns, by);
+    let place = place_of(columns, by as usize);
     words.get(place as usize).copied().unwrap_or(0)
 }
 
 /// Where the words of a column of the file begin in a record.
-pub fn place_of(columns: &[Column], at: u32) -> u32
+pub fn place_of(columns: &[Column], at: usize) -> u32
     requires { columns_width columns.now ≤ WIDTH_MAX }
     ensures { result ≡ loading.place_of columns.now at }
 {
-    let (before, _) = columns.split_at(columns.len().min(at as usize));
+    let (before, _) = columns.split_at(columns.len().min(at));
     width_of(before)
 }
 

@@ -33,7 +33,7 @@ pub command-one : DayHasOneText → CommandIsOne
 command-one days (stat place) old new before after first other rest behind text said are runs again same =
     part-of new after first other rest behind text said same (counts-one objects_line place.coll first other rest behind text said runs.1 again.1 same) (names-kept old new before after are runs.0 again.0)
 command-one days (query place tree) old new before after first other rest behind text said are runs again same =
-    part-of new after first other rest behind text said same (counts-one count_row place.coll first other rest behind text said runs.2 again.2 same) (names-kept old new before after are runs.0 again.0)
+    part-of new after first other rest behind text said same (counts-one count_row place.coll first other rest behind text said runs.1.1 again.1.1 same) (names-kept old new before after are runs.0 again.0)
 command-one days (compact place) old new before after first other rest behind text said are runs again same =
     part-of new after first other rest behind text said same (packs-one place first other rest behind text said runs.1 again.1 same) (names-kept old new before after are runs.0 again.0)
 command-one days (add place name row) old new before after first other rest behind text said are runs again same =

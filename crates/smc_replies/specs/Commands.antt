@@ -1,5 +1,5 @@
 -- What each command does, and what it replies.
-use Rattle.std.specs.Prelude.{◌≡◌, ℕ, ◌<◌, Bool, true, false, is_none, ◌==◌, ◌&&◌, List, [], ◌∷◌, ◌++◌, All, length, codes, Option, Some, None}
+use Rattle.std.specs.Prelude.{◌≡◌, ℕ, ◌<◌, Bool, true, false, is_none, ◌==◌, ◌&&◌, List, [], ◌∷◌, ◌++◌, length, codes, Option, Some, None}
 use Rattle.std.specs.Fmt.{decimal}
 use Rattle.smc_shape.specs.Layout.{Layout, width_of}
 use Rattle.smc_trace.specs.Trace.{CallEnd}
@@ -13,14 +13,9 @@ use Rattle.smc_types.specs.Tables.{the_tables}
 use Rattle.smc_types.specs.declared.schema.Schema.{Schema}
 use Rattle.smc_query.specs.Trees as trees
 use Rattle.smc_query.specs.Trees.{CallTree, ItemTree, QueryTree}
-use Rattle.smc_types.specs.Columns.{columns_width, value_kinds}
-use Rattle.smc_types.specs.Faults.{value_fault}
-use Rattle.smc_types.specs.Rows.{IsValue}
-use Rattle.smc_types.specs.declared.column.FieldType.{FieldType}
-use Rattle.smc_types.specs.declared.row.Value.{Value}
-use Rattle.smc_tbl.specs.TableText.{FitsColumns}
-use Rattle.smc_query.specs.Trees.{Word}
-use Rattle.smc_script.specs.Tables.{column_kind, is_editable, schema_of}
+use Rattle.smc_types.specs.Columns.{columns_width}
+use Rattle.smc_script.specs.Sound.{FitsColumn, FitsTable}
+use Rattle.smc_script.specs.Tables.{schema_of}
 use Rattle.smc_script.specs.Trees.{CommandTree, add, compact, get, query, remove, set, stat}
 use Rattle.smc_script.specs.declared.script.Place.{Place}
 use Rattle.smc_replies.specs.Books.{Books, object_of}
@@ -92,11 +87,19 @@ pub record PacksTable (place : Place) (calls : List CallEnd) (text : List ℕ) :
 
 -- ---- commands
 
+-- the query asks how many rows its table has, and is answered by counting its objects
+abbrev pub AnswersCount : Place → QueryTree → List CallEnd → List ℕ → Type 0
+AnswersCount place tree calls text = (counts_all tree ≡ true) × Counts count_row place.coll calls text
+
 -- the commands that are run; a script that has another one is refused at its line, as one with a line that is no command
 abbrev pub is_known : CommandTree → Bool
 is_known (stat place) = true
 is_known (query place tree) = counts_all tree
 is_known (compact place) = true
+is_known (add place name row) = true
+is_known (get place name) = true
+is_known (set place name column value) = true
+is_known (remove place name) = true
 is_known _ = false
 
 -- ---- what a command needs
@@ -112,28 +115,14 @@ pub record IsTableOf (shape : Layout) (place : Place) : Type 0 where
   pub coll : IsCollOf shape place
   pub width : columns_width schema.columns ≡ width_of shape place.coll
 
--- the row is one of the table with this number: a value for each column of its file, within its range or width
-pub record FitsTable (table : ℕ) (row : List Value) : Type 0 where
-  pub schema : Schema
-  pub is : schema_of the_tables table ≡ Some schema
-  pub fits : FitsColumns (value_kinds schema.columns) row
-  pub texts : All IsValue row
-
--- the value is one of the column of this name, which may be written
-pub record FitsColumn (table : ℕ) (column : Word) (value : Value) : Type 0 where
-  pub kind : FieldType
-  pub is : column_kind the_tables table column ≡ Some kind
-  pub writes : is_editable kind ≡ true
-  pub fits : value_fault kind value ≡ None
-
 -- the command may be run on a region of this shape
 abbrev pub CanRun : Layout → CommandTree → Type 0
 CanRun shape (stat place) = IsCollOf shape place
 CanRun shape (query place tree) = (counts_all tree ≡ true) × IsCollOf shape place
 CanRun shape (compact place) = IsCollOf shape place
-CanRun shape (add place name row) = IsTableOf shape place × FitsTable place.table row
+CanRun shape (add place name row) = IsTableOf shape place × FitsTable the_tables place.table row
 CanRun shape (get place name) = IsTableOf shape place
-CanRun shape (set place name column value) = IsTableOf shape place × FitsColumn place.table column value
+CanRun shape (set place name column value) = IsTableOf shape place × FitsColumn the_tables place.table column value
 CanRun shape (remove place name) = IsCollOf shape place
 CanRun shape _ = ⊥
 
@@ -142,7 +131,7 @@ CanRun shape _ = ⊥
 -- the command, with what was known before it and what is known after it, makes these calls, and this is its reply
 abbrev pub RunsCommand : CommandTree → Books → Books → List CallEnd → List ℕ → Type 0
 RunsCommand (stat place) old new calls text = (new ≡ old) × Counts objects_line place.coll calls text
-RunsCommand (query place tree) old new calls text = (new ≡ old) × (counts_all tree ≡ true) × Counts count_row place.coll calls text
+RunsCommand (query place tree) old new calls text = (new ≡ old) × AnswersCount place tree calls text
 RunsCommand (compact place) old new calls text = (new ≡ old) × PacksTable place calls text
 RunsCommand (add place name row) old new calls text = AddsBy (schema_of the_tables place.table) place name row old new calls text
 RunsCommand (get place name) old new calls text =

@@ -214,13 +214,23 @@ mod tests {
                 "packed nation objects 0 blocks 0\nrows 1\n0\n",
             ),
             (
+                "room region 64\nadd region africa 0|AFRICA|a|\nget africa\nset africa regionkey 7\nget africa\nstat region\n",
+                "smc: 0 done",
+                "added africa\n0|AFRICA|a|\nset\n7|AFRICA|a|\nobjects 1\n",
+            ),
+            (
+                "room region 64\nadd region asia 2|ASIA||\nremove asia\nget asia\nremove asia\ncompact region\n",
+                "smc: 0 done",
+                "added asia\nremoved\nnull\nnull\npacked region objects 0 blocks 0\n",
+            ),
+            (
                 "room region 64\ncompact nation\n",
                 "smc: 2 bad script, line 2",
                 "",
             ),
         ];
         for (case, (text, line, written)) in cases.iter().enumerate() {
-            let (status, held) = run(rt.alloc(), &["run"], text, &[], &[], 64)?;
+            let (status, held) = run(rt.alloc(), &["run"], text, &[], &[], 128)?;
             assert_eq!(rt; status.as_str(), *line, "at {case}");
             assert_eq!(rt; held.as_slice(), written.as_bytes(), "at {case}");
         }

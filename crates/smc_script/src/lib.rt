@@ -36,4 +36,4 @@ pub use read::read_script;
 pub use script::{
     Commands, Numbered, Part, Parts, Place, Room, Rooms, Script, WorkerPart, Workers,
 };
-pub use table::table_width;
+pub use table::{column_at, table_width};

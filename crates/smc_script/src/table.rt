@@ -53,8 +53,8 @@ fn is_column(word: &str, column: &Column) -> bool
     !column.kind.is_reference() & (column.name.as_str() == word)
 }
 
-// Where the column of this name stands among the columns.
-fn column_at(columns: &[Column], word: &str) -> Option<usize>
+/// Where the column of this name stands among the columns. References are no columns of a row.
+pub fn column_at(columns: &[Column], word: &str) -> Option<usize>
     ensures place { result ≡ spec.column_at columns.now word.now }
     ensures within { IfSome result (λ place. place < length columns.now) }
 {

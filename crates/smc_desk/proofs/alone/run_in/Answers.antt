@@ -13,7 +13,7 @@ returns-in-Err-clause-ends g c =
     let closed = HasClosed c.args.shape in
     let parts = map part_tree c.args.parts.now in
     let old = held c.args.out.now in
-    let new = held c.run_parts-pass.new.out in
-    let ends = ends-unclosed closed c.run_parts-pass.result.1 parts c.in-Ok.pass c.run_parts-pass.result.0 old new c.run_parts-pass.ensures.ends in
+    let new = held c.run_all-pass.new.out in
+    let ends = ends-unclosed closed c.run_all-pass.result.1 parts c.in-Ok.pass c.run_all-pass.result.0 old new c.run_all-pass.ensures.ends in
     subst (λ (e : RunEnd). RunsAs closed e parts c.without-in-Err.result.quiet old new) (sym c.without-in-Err.ensures.end)
     (subst (λ (q : Option Ended). RunsAs closed NoMemory parts q old new) (sym c.without-in-Err.ensures.quiet) ends)

@@ -1,14 +1,13 @@
-use Rattle.std.proofs.Common.{◌≡◌, ℕ, List, true, IfOk, refl, sym, subst}
+use Rattle.std.proofs.Common.{ℕ, List, IfOk, refl, sym, subst}
 use Rattle.smc_trace.specs.Trace.{CallEnd}
-use Rattle.smc_shape.specs.Layout.{Layout}
 use Rattle.smc_does.specs.Does.{DoesSome}
 use Rattle.smc_query.specs.Trees.{query_tree}
 use Rattle.smc_types.specs.Tables.{the_tables}
 use Rattle.smc_script.specs.Tables.{schema_of}
 use Rattle.smc_script.specs.Trees.{command_tree}
 use Rattle.smc_script.specs.declared.command.Command.{Command}
-use Rattle.smc_replies.specs.Books.{Books, object_of}
-use Rattle.smc_replies.specs.Commands.{CanRun, Counts, PacksTable, RunsCommand, count_row, counts_all, objects_line}
+use Rattle.smc_replies.specs.Books.{object_of}
+use Rattle.smc_replies.specs.Commands.{AnswersCount, CanRun, Counts, PacksTable, RunsCommand, objects_line}
 use Rattle.smc_replies.specs.Objects.{GetsBy, OnObject, RemovesNamed, SetsBy}
 use Rattle.smc_desk.specs.Runs.{seen}
 use Rattle.smc_desk.proofs.CountLaws.{counts-run}
@@ -31,11 +30,10 @@ returns-in-Query-clause-done c =
     let new = c.count.result.0 in
     let reply = c.count.result.1 in
     let tree = query_tree c.in-Query.query in
-    let coll = c.in-Query.place.coll in
+    let place = c.in-Query.place in
     let can = subst (λ (k : Command). CanRun c.args.region.now.about.shape (command_tree k)) c.in-Query.is c.requires.can in
     subst (λ (k : Command). IfOk reply (λ text. DoesSome old new (λ calls. RunsCommand (command_tree k) known known calls text))) (sym c.in-Query.is)
-    (kept-run (λ (calls : List CallEnd) (text : List ℕ). (counts_all tree ≡ true) × Counts count_row coll calls text) known known old new reply refl
-    (counts-run coll tree old new reply can.0 c.count.ensures.done))
+    (kept-run (λ (calls : List CallEnd) (text : List ℕ). AnswersCount place tree calls text) known known old new reply refl (counts-run place tree old new reply can.0 c.count.ensures.done))
 
 pub returns-in-Compact-clause-done : goal.returns-in-Compact-clause-done
 returns-in-Compact-clause-done c =

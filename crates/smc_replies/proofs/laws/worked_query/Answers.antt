@@ -14,12 +14,14 @@ returns c = (
   _,
   (
     refl,
-    refl,
-    record {
-      count = 2;
-      counts = record { epoch = 2; inner = _; holds = record { scan = 0; visits = object_at 5 0 ∷ object_at 7 3 ∷ []; counted = refl; made = refl }; made = refl };
-      reply = refl;
-    },
+    (
+      refl,
+      record {
+        count = 2;
+        counts = record { epoch = 2; inner = _; holds = record { scan = 0; visits = object_at 5 0 ∷ object_at 7 3 ∷ []; counted = refl; made = refl }; made = refl };
+        reply = refl;
+      },
+    ),
   ),
   (refl, refl, refl),
   refl,

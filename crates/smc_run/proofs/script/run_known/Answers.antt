@@ -2,11 +2,12 @@ use Rattle.std.proofs.Common.{◌≡◌, List, map, None, sym, subst, ◌∙◌}
 use Rattle.smc_script.specs.declared.script.Part.{Part}
 use Rattle.smc_script.specs.Trees.{part_tree}
 use Rattle.smc_replies.specs.Scripts.{unknown_line}
-use Rattle.smc_run.proofs.ScriptLaws.{all-may}
+use Rattle.smc_run.proofs.ScriptLaws.{all-may, opens-may}
 use Rattle.smc_run.proofs.script.run_known.Goals as goal
 
 pub run_alone-end-requires-clause-may : goal.run_alone-end-requires-clause-may
 run_alone-end-requires-clause-may g c =
     let script = c.args.script.now in
     let none = subst (λ (parts : List Part). unknown_line (map part_tree parts) ≡ None) c.as_slice.ensures (sym c.unknown_line.ensures ∙ c.in-None.is) in
-    all-may script.rooms (map part_tree script.parts) c.requires.sound.fits none
+    let sound = c.requires.sound in
+    all-may script.rooms (map part_tree script.parts) (opens-may script.rooms sound.opens) sound.fits sound.values none
