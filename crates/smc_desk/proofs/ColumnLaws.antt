@@ -3,6 +3,7 @@ use Rattle.std.proofs.Common.{◌≡◌, ℕ, zero, suc, ◌+◌, ◌-◌, ◌�
 use Rattle.std.specs.Option.{option_map}
 use Rattle.std.specs.Prelude.{slice_get, slice_index_or}
 use Rattle.std.proofs.lemmas.List.{length-append, take_at}
+use Rattle.std.proofs.lemmas.List.Sums.{sum_by-cons}
 use Rattle.smc_types.specs.Columns.{columns_width, width_of}
 use Rattle.smc_types.specs.declared.column.Column.{Column}
 use Rattle.smc_types.specs.declared.column.FieldType.{FieldType}
@@ -21,14 +22,24 @@ one-word Day is = refl
 one-word (Text width) is = absurd cc
 one-word (RefTo table) is = absurd cc
 
+-- the columns with one more in front
+width-more : (first : Column) (columns : List Column) → columns_width (first ∷ columns) ≡ width_of first.kind + columns_width columns
+width-more first columns = sum_by-cons (λ (column : Column). width_of column.kind) first columns
+
 -- its field lies in the record
 pub field-within : (columns : List Column) (at : ℕ) (column : Column) → slice_get columns at ≡ Some column → width_of column.kind ≡ 1 → place_of columns at < columns_width columns
 field-within [] at column there one = absurd cc
 field-within (first ∷ columns) zero column there one =
     let same : first ≡ column = cc in
     let width = ap (λ (c : Column). width_of c.kind) same ∙ one in
-    omega (arith, width)
-field-within (first ∷ columns) (suc at) column there one = let later = field-within columns at column there one in omega (arith, later)
+    let start : place_of (first ∷ columns) zero ≡ 0 = refl in
+    let whole = width-more first columns in
+    omega (arith, width, start, whole)
+field-within (first ∷ columns) (suc at) column there one =
+    let later = field-within columns at column there one in
+    let start = width-more first (take at columns) in
+    let whole = width-more first columns in
+    omega (arith, later, start, whole)
 
 -- the words of a row, without those that stand behind them
 pub without-last : (words row refs : List ℕ) (count : ℕ) → words ≡ row ++ refs → length refs ≡ count → take (length words - count) words ≡ row

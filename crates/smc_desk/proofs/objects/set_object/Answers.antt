@@ -1,4 +1,4 @@
-use Rattle.std.proofs.Common.{◌≡◌, ◌<◌, true, ℕ, List, Some, sym, subst, ap, ◌∙◌, arith}
+use Rattle.std.proofs.Common.{◌≡◌, ◌<◌, true, ℕ, List, [], ◌∷◌, Some, sym, subst, ap, ◌∙◌, arith}
 use Rattle.std.specs.Prelude.{slice_get}
 use Rattle.smc_shape.specs.Layout.{Layout, width_of}
 use Rattle.smc_does.specs.Does.{DoesSome}
@@ -9,6 +9,7 @@ use Rattle.smc_types.specs.declared.column.Column.{Column}
 use Rattle.smc_types.specs.declared.column.FieldType.{FieldType}
 use Rattle.smc_types.specs.declared.schema.Schema.{Schema}
 use Rattle.smc_types.specs.Columns.{columns_width}
+use Rattle.smc_types.specs.Records.{value_words}
 use Rattle.smc_load.specs.Loading.{place_of}
 use Rattle.smc_script.specs.Tables.{column_at, is_editable, schema_of}
 use Rattle.smc_desk.proofs.ColumnLaws.{column-there, field-within, kind-there, one-schema, one-word}
@@ -51,5 +52,6 @@ returns-clause-done c =
     let found = c.set_one-pass.result.1 in
     let last = c.set_one-pass.result.0 in
     let done = subst (λ (k : ℕ). DoesSome c.args.pass last (InSection (SetsField c.args.number k word found))) is c.set_one-pass.ensures.done in
+    let one = subst (λ (k : Column). value_words k.kind c.args.value.now ≡ word ∷ []) (sym c.index-columns-at.is) c.word_of-word.ensures.word in
     sets-done (schema_of the_tables c.args.place.table) schema c.args.column.now c.args.value.now c.args.number at column word found c.args.pass last c.found_reply.result
-    by named there c.word_of-word.ensures.word done c.found_reply.ensures
+    by named there one done c.found_reply.ensures
