@@ -219,7 +219,13 @@ fn close_region(region: Region, pass: Pass, mut passes: Vec<Pass>) -> Result<Qui
 }
 
 // Runs the parts by the one pass of a new region, and closes it.
-fn run_in<O: Sink>(alloc: Global, catalog: &Catalog, shape: Shape, parts: &[Part], out: &mut O) -> Ran
+fn run_in<O: Sink>(
+    alloc: Global,
+    catalog: &Catalog,
+    shape: Shape,
+    parts: &[Part],
+    out: &mut O,
+) -> Ran
     requires tables { catalog.now ≡ the_tables }
     requires one { shape.passes ≡ 1 }
     requires may { AllByRecursion (CanRunPart shape) (map part_tree parts.now) }
