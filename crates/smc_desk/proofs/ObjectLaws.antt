@@ -42,9 +42,12 @@ module _ {E : Type 0} where
       → IfOk reply (λ text. DoesSome old new (λ calls. AddsBy by place name values known now calls text))
   adds-done by schema place name values words known now old new number (Ok text) is are ends names says =
       let done = subst (λ (w : List ℕ). RowEnds (Ok number) schema place.table place.coll known.keys now.keys w old new) are ends in
-      let same = ap (λ (n : Number). with_name name (Some n) known.names) (sym done.2.1) in
-      (done.0, done.1, subst (λ (s : Option Schema). AddsBy s place name values known now done.0 text) (sym is)
-      (inl (record { loads = done.2.0; names = names ∙ same; reply = says })))
+      let same = ap (λ (n : Number). with_name name (Some n) known.names) (sym done.2.1) in (
+        done.0,
+        done.1,
+        subst (λ (s : Option Schema). AddsBy s place name values known now done.0 text) (sym is)
+            (inl (record { loads = done.2.0; names = names ∙ same; reply = says })),
+      )
   adds-done by schema place name values words known now old new number (Err fault) is are ends names says = tt
 
   pub adds-full : (by : Option Schema) (schema : Schema) (place : Place) (name : Word) (values : List Value) (words : List ℕ) (known now : Books) (old new : Caller) (reply : Result (List ℕ) E)
@@ -52,9 +55,12 @@ module _ {E : Type 0} where
       → OnOk reply (now.names ≡ with_name name None known.names) → IfOk reply (λ text. text ≡ add_line None name)
       → IfOk reply (λ text. DoesSome old new (λ calls. AddsBy by place name values known now calls text))
   adds-full by schema place name values words known now old new (Ok text) is are ends names says =
-      let done = subst (λ (w : List ℕ). RowEnds (Err row.Full) schema place.table place.coll known.keys now.keys w old new) are ends in
-      (done.1.0, done.1.1, subst (λ (s : Option Schema). AddsBy s place name values known now done.1.0 text) (sym is)
-      (inr (record { refuses = done.1.2; keys = done.0; names = names; reply = says })))
+      let done = subst (λ (w : List ℕ). RowEnds (Err row.Full) schema place.table place.coll known.keys now.keys w old new) are ends in (
+        done.1.0,
+        done.1.1,
+        subst (λ (s : Option Schema). AddsBy s place name values known now done.1.0 text) (sym is)
+            (inr (record { refuses = done.1.2; keys = done.0; names = names; reply = says })),
+      )
   adds-full by schema place name values words known now old new (Err fault) is are ends names says = tt
 
   -- ---- get, set, remove
@@ -70,9 +76,12 @@ module _ {E : Type 0} where
       → by ≡ Some schema → column_at schema.columns name ≡ Some at → slice_get schema.columns at ≡ Some column → value_words column.kind value ≡ word ∷ []
       → DoesSome old new (InSection (SetsField number (place_of schema.columns at) word found)) → IfOk reply (λ text. text ≡ found_line found (codes "set\n"))
       → IfOk reply (λ text. DoesSome old new (λ calls. SetsBy by name value number calls text))
-  sets-done by schema name value number at column word found old new (Ok text) is named there one done says =
-      (done.0, done.1, subst (λ (s : Option Schema). SetsBy s name value number done.0 text) (sym is)
-      (record { at = at; column = column; word = word; found = found; named = named; there = there; is = one; sets = done.2; reply = says }))
+  sets-done by schema name value number at column word found old new (Ok text) is named there one done says = (
+    done.0,
+    done.1,
+    subst (λ (s : Option Schema). SetsBy s name value number done.0 text) (sym is)
+        (record { at = at; column = column; word = word; found = found; named = named; there = there; is = one; sets = done.2; reply = says }),
+  )
   sets-done by schema name value number at column word found old new (Err fault) is named there one done says = tt
 
   pub removes-done : (number : Number) (gone : Bool) (old new : Caller) (reply : Result (List ℕ) E) → DoesSome old new (InSection (RemovesObject number gone))

@@ -73,7 +73,10 @@ pub(crate) fn add(
         &mut words,
     );
     match answer {
-        Ok(number) => (pass, name_object(alloc, name, Some(number), &mut books.names)),
+        Ok(number) => (
+            pass,
+            name_object(alloc, name, Some(number), &mut books.names),
+        ),
         Err(RowFault::Full) => (pass, name_object(alloc, name, None, &mut books.names)),
         Err(RowFault::NoMemory) => (pass, Err(NoMemory)),
     }

@@ -60,7 +60,10 @@ fn compact(
     ensures home { IsSame pass result.0 × OwnsNone result.0 }
 {
     let (pass, packed) = pack(pass, region, place.coll, COMPACT_TURNS);
-    (pass, packed_reply(alloc, table_name(catalog, place.table), packed))
+    (
+        pass,
+        packed_reply(alloc, table_name(catalog, place.table), packed),
+    )
 }
 
 /// Runs one command outside a group, which reads no file. Answers its reply.
@@ -97,15 +100,7 @@ pub fn one(
             column,
             value,
         } => set(
-            alloc,
-            *place,
-            name,
-            column,
-            value,
-            catalog,
-            books,
-            pass,
-            region,
+            alloc, *place, name, column, value, catalog, books, pass, region,
         ),
         Command::Remove { place, name } => remove(alloc, *place, name, books, pass, region),
         _ => unreachable!(),

@@ -264,8 +264,7 @@ pub adds-one : (schema : Option Schema) (place : Place) (name : Word) (row : Lis
     → IsOneReply rest behind text said × (new.names ≡ after.names)
 adds-one None place name row old new before after first other rest behind text said are one two same = absurd one
 adds-one (Some schema) place name row old new before after first other rest behind text said are (inl one) (inl two) same =
-    let read = rows-front _ _ _ _ (Ok one.loads.number) (Ok two.loads.number) first other rest behind one.loads.adds two.loads.adds same in
-    (
+    let read = rows-front _ _ _ _ (Ok one.loads.number) (Ok two.loads.number) first other rest behind one.loads.adds two.loads.adds same in (
       (read.1, one.reply ∙ sym two.reply),
       same-names name (Some one.loads.number) (Some two.loads.number) old.names before.names new.names after.names are (ap (λ (n : Number). Some n) read.0) one.names two.names,
     )

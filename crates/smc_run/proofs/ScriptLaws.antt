@@ -7,8 +7,9 @@ use Rattle.std.proofs.KnownBytes.{Keeps-refl}
 use Rattle.std.proofs.lemmas.Bool.Decides.{nat_tests}
 use Rattle.std.proofs.lemmas.List.{length-map}
 use Rattle.smc_outside.specs.Told.{OnTold}
-use Rattle.smc_shape.specs.Faults.{colls_fault, width_fault}
-use Rattle.smc_shape.specs.Layout.{asked_coll, width_of}
+use Rattle.smc_shape.specs.declared.coll.CollShape.{CollShape}
+use Rattle.smc_shape.specs.Faults.{colls_fault, count_fault, fault_of, passes_fault, size_fault, width_fault}
+use Rattle.smc_shape.specs.Layout.{asked, asked_coll, width_of, words_of}
 use Rattle.smc_region.specs.Ends.{Ended}
 use Rattle.smc_query.specs.Trees.{Word}
 use Rattle.smc_types.specs.Tables.{the_tables}
@@ -72,6 +73,14 @@ has-schema : (by : Option Schema) → 0 < width_by by → (schema : Schema) × (
 has-schema None some = absurd (omega (arith, some))
 has-schema (Some schema) some = (schema, refl)
 
+-- the collections of a region that there may be
+colls-good : (colls : List CollShape) → fault_of 1 colls ≡ None → colls_fault colls ≡ None
+colls-good colls none =
+    let size = size_fault (words_of (asked 1 colls)) in
+    let rest = option_or (colls_fault colls) size in
+    let passes = or-none (count_fault (length colls)) (option_or (passes_fault 1) rest) none in
+    (or-none (colls_fault colls) size (or-none (passes_fault 1) rest passes.1).1).0
+
 -- the region of rooms that it may have
 pub opens-may : (rooms : List Room) → Opens (map (coll_of_room the_tables) rooms) → MayOpen rooms
 opens-may [] opens = tt
@@ -86,7 +95,7 @@ table-of : (rooms : List Room) (place : Place) → MayOpen rooms → IsRoomPlace
 table-of [] place opens is = let at = room-within [] place.coll is.room is.there in absurd (omega (arith, at))
 table-of (first ∷ rooms) place opens is =
     let all : List Room = first ∷ rooms in
-    let none : colls_fault (colls_asked all) ≡ None = (or-none _ _ (or-none _ _ (or-none _ _ opens).1).1).0 in
+    let none = colls-good (colls_asked all) opens in
     let width = room-width all place.coll is.room is.there in
     let table : is.room.place.table ≡ place.table = ap (λ (p : Place). p.table) is.same in
     let wide : 0 < table_width the_tables place.table = subst (λ (k : ℕ). 0 < table_width the_tables k) table (room-wide all place.coll is.room none is.there) in
