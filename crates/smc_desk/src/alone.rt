@@ -134,8 +134,7 @@ fn run_one<F: Shelf, O: Sink>(
     ensures shelf_later { F.faults shelf.old ≤ F.faults shelf.new }
 {
     if let Command::Load { place, file } = &numbered.command {
-        let (pass, answer) =
-            load_table(alloc, *place, file, catalog, books, shelf, pass, region);
+        let (pass, answer) = load_table(alloc, *place, file, catalog, books, shelf, pass, region);
         return match answer {
             Ok(reply) => (pass, write_reply(out, &reply)),
             Err(fault) => (pass, end_of(alloc, file, fault)),

@@ -64,8 +64,7 @@ pub loads-one : (told : Told) (by : Option Schema) (place : Place) (file : Word)
 loads-one None by place file old new before after first other rest behind text said tells are one two same = absurd tells
 loads-one (Some files) None place file old new before after first other rest behind text said tells are one two same = absurd one
 loads-one (Some files) (Some schema) place file old new before after first other rest behind text said tells are one two same =
-    let read = found-front files file schema place.table place.coll one.count two.count old.keys new.keys before.keys after.keys first other rest behind one.loads two.loads same in
-    (
+    let read = found-front files file schema place.table place.coll one.count two.count old.keys new.keys before.keys after.keys first other rest behind one.loads two.loads same in (
       (read.1, one.reply ∙ ap (loaded_line schema.name) read.0 ∙ sym two.reply),
       one.names ∙ are ∙ sym two.names,
     )

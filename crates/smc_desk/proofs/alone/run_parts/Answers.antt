@@ -39,7 +39,7 @@ returns-in_default g c =
     let shelf_later = ensures.shelf_later in
     let status = c.run_part-next.result.1 in
     let ends = subst (λ (k : Told). PartEnds (scene_of k shape) status (part_tree item) (seen c.loop-part.books) (seen c.run_part-next.new.books) c.loop-part.pass c.run_part-next.result.0
-        (held c.loop-part.out) (held c.run_part-next.new.out)) kept ensures.ends in
+    (held c.loop-part.out) (held c.run_part-next.new.out)) kept ensures.ends in
     record {
       home = ((now.0 ∙ before.0, now.1 ∙ before.1, now.2 ∙ before.2), ensures.home.1);
       ends = ends-within (scene_of (files c.args.shelf.now) shape) (seen c.args.books.now) status (map part_tree parts) i (part_tree item) (seen c.loop-part.books) (seen c.run_part-next.new.books)
@@ -71,7 +71,7 @@ loop-part-preserved g c =
     let known = seen c.loop-part.books in
     let now = seen c.run_part-next.new.books in
     let told = subst (λ (k : Told). PartEnds (scene_of k shape) c.run_part-next.result.1 (part_tree item) known now c.loop-part.pass next (held c.loop-part.out) (held c.run_part-next.new.out))
-        kept c.run_part-next.ensures.ends in
+    kept c.run_part-next.ensures.ends in
     let ends = subst (λ (e : RunEnd). PartEnds scene e (part_tree item) known now c.loop-part.pass next (held c.loop-part.out) (held c.run_part-next.new.out)) c.in-Done.is told in
     record {
       ran = subst (λ (ps : List PartTree). DoesSome c.args.pass next (λ calls. Replies scene Appends ps (seen c.args.books.now) now calls (held c.args.out.now) (held c.run_part-next.new.out)))
