@@ -2,4 +2,5 @@ pub mod ColumnLaws
 pub mod CountLaws
 pub mod NameLaws
 pub mod ObjectLaws
+pub mod LoadLaws
 pub mod RunLaws

@@ -1,5 +1,5 @@
 -- What the running of a script does and writes.
-use Rattle.std.specs.Prelude.{◌≡◌, ℕ, List, [], ◌∷◌, map, take, Option, Some, None}
+use Rattle.std.specs.Prelude.{◌≡◌, ⊤, ℕ, List, [], ◌∷◌, ◌++◌, map, take, Option, Some, None}
 use Rattle.std.specs.List.{AllZip}
 use Rattle.std.specs.Io.KnownBytes.{Appends, Keeps}
 use Rattle.smc_outside.specs.Pieces.{AppendsFront}
@@ -17,10 +17,17 @@ use Rattle.smc_script.specs.declared.script.Room.{Room}
 use Rattle.smc_script.specs.Tables.{table_width}
 use Rattle.smc_script.specs.Trees.{PartTree, ScriptTree}
 use Rattle.smc_replies.specs.Books.{Books, no_books}
-use Rattle.smc_replies.specs.Scripts.{RunsPart, RunsParts}
+use Rattle.smc_query.specs.Trees.{Word}
+use Rattle.smc_types.specs.declared.schema.Schema.{Schema}
+use Rattle.smc_script.specs.declared.script.Place.{Place}
+use Rattle.smc_load.specs.Files.{Told}
+use Rattle.smc_load.specs.declared.fault.LoadFault.{LoadFault}
+use Rattle.smc_load.specs.declared.fault.LoadFault.TheVariants as load
+use Rattle.smc_replies.specs.Loads.{Scene, StopsBy}
+use Rattle.smc_replies.specs.Scripts.{RunsPart, RunsParts, StopsPart}
 use Rattle.smc_desk.specs.declared.books.Books as own
 use Rattle.smc_desk.specs.declared.alone.RunEnd.{RunEnd}
-use Rattle.smc_desk.specs.declared.alone.RunEnd.TheVariants.{Done, WriteFault, NoMemory}
+use Rattle.smc_desk.specs.declared.alone.RunEnd.TheVariants.{Done, WriteFault, NoFile, BadTable, TableFull, ReadFault, NoMemory}
 
 -- ---- the region of a script
 
@@ -43,40 +50,76 @@ MayOpen (room ∷ later) = fault_of 1 (colls_asked (room ∷ later)) ≡ None
 abbrev pub seen : own.Books → Books
 seen books = record { names = books.names; keys = books.keys }
 
+-- what a script stands in
+abbrev pub scene_of : Told → Layout → Scene
+scene_of files shape = record { files = files; shape = shape }
+
 -- parts were run by these calls, with what was known before them and after them, and what was written grew in this way by
 -- their replies
-abbrev pub Replies : (Option (List ℕ) → Option (List ℕ) → List ℕ → Type 0) → List PartTree → Books → Books → List CallEnd → Option (List ℕ) → Option (List ℕ) → Type 0
-Replies grows parts known now calls before after = (text : List ℕ) × RunsParts parts known now calls text × grows before after text
+abbrev pub Replies : Scene → (Option (List ℕ) → Option (List ℕ) → List ℕ → Type 0) → List PartTree → Books → Books → List CallEnd → Option (List ℕ) → Option (List ℕ) → Type 0
+Replies scene grows parts known now calls before after = (text : List ℕ) × RunsParts scene parts known now calls text × grows before after text
 
 -- the same of one part
-abbrev pub Replied : (Option (List ℕ) → Option (List ℕ) → List ℕ → Type 0) → PartTree → Books → Books → List CallEnd → Option (List ℕ) → Option (List ℕ) → Type 0
-Replied grows part known now calls before after = (text : List ℕ) × RunsPart part known now calls text × grows before after text
+abbrev pub Replied : Scene → (Option (List ℕ) → Option (List ℕ) → List ℕ → Type 0) → PartTree → Books → Books → List CallEnd → Option (List ℕ) → Option (List ℕ) → Type 0
+Replied scene grows part known now calls before after = (text : List ℕ) × RunsPart scene part known now calls text × grows before after text
 
 -- what is written of a text, as its writing ends: all of it, or a front
 abbrev pub Writes : RunEnd → Option (List ℕ) → Option (List ℕ) → List ℕ → Type 0
 Writes Done before after text = Appends before after text
 Writes WriteFault before after text = AppendsFront before after text
-Writes NoMemory before after text = ⊥
+Writes end before after text = ⊥
 
--- how one part ends; without memory nothing was written
-abbrev pub PartEnds : RunEnd → PartTree → Books → Books → Caller → Caller → Option (List ℕ) → Option (List ℕ) → Type 0
-PartEnds Done part known now old new before after = DoesSome old new (λ calls. Replied Appends part known now calls before after)
-PartEnds WriteFault part known now old new before after = DoesSome old new (λ calls. Replied AppendsFront part known now calls before after)
-PartEnds NoMemory part known now old new before after = Keeps before after
+-- how the running ends where a load of this file stops at a fault
+abbrev pub end_of : Word → LoadFault → RunEnd
+end_of file load.NoFile = NoFile file
+end_of file (load.Tbl line fault) = BadTable file line
+end_of file (load.Full line) = TableFull file line
+end_of file load.ReadFault = ReadFault
+end_of file load.NoMemory = NoMemory
+
+-- a load by these columns stops at the fault; for want of memory nothing is told
+abbrev pub LoadStops : LoadFault → Option Schema → Told → Place → Word → Books → Caller → Caller → Type 0
+LoadStops load.NoMemory by files place file known old new = ⊤
+LoadStops fault by files place file known old new = DoesSome old new (StopsBy by files fault place file known)
+
+-- the part is a load that stops behind these calls, where the running ends so
+abbrev pub StopsAs : Scene → RunEnd → PartTree → Books → List CallEnd → Type 0
+StopsAs scene end part known calls = (file : Word) × (fault : LoadFault) × (end ≡ end_of file fault) × StopsPart scene file fault part known calls
+
+-- how one part ends; where it stops, and without memory, nothing was written
+abbrev pub PartEnds : Scene → RunEnd → PartTree → Books → Books → Caller → Caller → Option (List ℕ) → Option (List ℕ) → Type 0
+PartEnds scene Done part known now old new before after = DoesSome old new (λ calls. Replied scene Appends part known now calls before after)
+PartEnds scene WriteFault part known now old new before after = DoesSome old new (λ calls. Replied scene AppendsFront part known now calls before after)
+PartEnds scene NoMemory part known now old new before after = Keeps before after
+PartEnds scene end part known now old new before after = DoesSome old new (StopsAs scene end part known) × Keeps before after
 
 -- the first parts, as many as were run, were run by these calls, and a front of their replies was written
-abbrev pub RepliesFront : List PartTree → Books → List CallEnd → Option (List ℕ) → Option (List ℕ) → Type 0
-RepliesFront parts known calls before after = (count : ℕ) × (now : Books) × Replies AppendsFront (take count parts) known now calls before after
+abbrev pub RepliesFront : Scene → List PartTree → Books → List CallEnd → Option (List ℕ) → Option (List ℕ) → Type 0
+RepliesFront scene parts known calls before after = (count : ℕ) × (now : Books) × Replies scene AppendsFront (take count parts) known now calls before after
 
 -- all parts were run by these calls, and all their replies were written
-abbrev pub RepliesAll : List PartTree → Books → List CallEnd → Option (List ℕ) → Option (List ℕ) → Type 0
-RepliesAll parts known calls before after = (now : Books) × Replies Appends parts known now calls before after
+abbrev pub RepliesAll : Scene → List PartTree → Books → List CallEnd → Option (List ℕ) → Option (List ℕ) → Type 0
+RepliesAll scene parts known calls before after = (now : Books) × Replies scene Appends parts known now calls before after
+
+-- the parts before one were run, and all their replies were written; it is a load that stopped behind further calls
+pub record StopsWithin (scene : Scene) (end : RunEnd) (parts : List PartTree) (known : Books) (calls : List CallEnd) (before after : Option (List ℕ)) : Type 0 where
+  pub run : List PartTree
+  pub part : PartTree
+  pub behind : List PartTree
+  pub now : Books
+  pub first : List CallEnd
+  pub rest : List CallEnd
+  pub are : parts ≡ run ++ part ∷ behind
+  pub replied : Replies scene Appends run known now first before after
+  pub stops : StopsAs scene end part now rest
+  pub made : calls ≡ first ++ rest
 
 -- how parts end
-abbrev pub PartsEnd : RunEnd → List PartTree → Books → Caller → Caller → Option (List ℕ) → Option (List ℕ) → Type 0
-PartsEnd Done parts known old new before after = DoesSome old new (λ calls. RepliesAll parts known calls before after)
-PartsEnd WriteFault parts known old new before after = DoesSome old new (λ calls. RepliesFront parts known calls before after)
-PartsEnd NoMemory parts known old new before after = (calls : List CallEnd) × RepliesFront parts known calls before after
+abbrev pub PartsEnd : Scene → RunEnd → List PartTree → Books → Caller → Caller → Option (List ℕ) → Option (List ℕ) → Type 0
+PartsEnd scene Done parts known old new before after = DoesSome old new (λ calls. RepliesAll scene parts known calls before after)
+PartsEnd scene WriteFault parts known old new before after = DoesSome old new (λ calls. RepliesFront scene parts known calls before after)
+PartsEnd scene NoMemory parts known old new before after = (calls : List CallEnd) × RepliesFront scene parts known calls before after
+PartsEnd scene end parts known old new before after = DoesSome old new (λ calls. StopsWithin scene end parts known calls before after)
 
 -- ---- the closed region
 
@@ -105,11 +148,12 @@ Closes (room ∷ later) quiet calls = HasClosed (shape_asked (room ∷ later)) q
 -- ---- a script
 
 -- how the running of parts ends, before which nothing was known: by calls that are those of the closed region
-abbrev pub RunsAs : (Option Ended → List CallEnd → Type 0) → RunEnd → List PartTree → Option Ended → Option (List ℕ) → Option (List ℕ) → Type 0
-RunsAs Closed Done parts quiet before after = (calls : List CallEnd) × RepliesAll parts no_books calls before after × Closed quiet calls
-RunsAs Closed WriteFault parts quiet before after = (calls : List CallEnd) × RepliesFront parts no_books calls before after × Closed quiet calls
-RunsAs Closed NoMemory parts quiet before after = (calls : List CallEnd) × RepliesFront parts no_books calls before after × (quiet ≡ None)
+abbrev pub RunsAs : (Option Ended → List CallEnd → Type 0) → Scene → RunEnd → List PartTree → Option Ended → Option (List ℕ) → Option (List ℕ) → Type 0
+RunsAs Closed scene Done parts quiet before after = (calls : List CallEnd) × RepliesAll scene parts no_books calls before after × Closed quiet calls
+RunsAs Closed scene WriteFault parts quiet before after = (calls : List CallEnd) × RepliesFront scene parts no_books calls before after × Closed quiet calls
+RunsAs Closed scene NoMemory parts quiet before after = (calls : List CallEnd) × RepliesFront scene parts no_books calls before after × (quiet ≡ None)
+RunsAs Closed scene end parts quiet before after = (calls : List CallEnd) × StopsWithin scene end parts no_books calls before after × Closed quiet calls
 
--- how the running of a script ends
-abbrev pub RunsTo : RunEnd → ScriptTree → Option Ended → Option (List ℕ) → Option (List ℕ) → Type 0
-RunsTo end script quiet before after = RunsAs (Closes script.rooms) end script.parts quiet before after
+-- how the running of a script over these files ends
+abbrev pub RunsTo : RunEnd → Told → ScriptTree → Option Ended → Option (List ℕ) → Option (List ℕ) → Type 0
+RunsTo end files script quiet before after = RunsAs (Closes script.rooms) (scene_of files (shape_asked script.rooms)) end script.parts quiet before after

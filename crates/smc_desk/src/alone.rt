@@ -1,5 +1,5 @@
 //! A script is run on a region of its own.
-ghost use Rattle.std.specs.Prelude.{◌≡◌, ◌≤◌, [], ◌∷◌, None, IfOk, map};
+ghost use Rattle.std.specs.Prelude.{◌≡◌, ◌≤◌, ◌⊎◌, [], ◌∷◌, None, IfOk, IsSome, map};
 ghost use Rattle.std.specs.List.{AllByRecursion};
 ghost use Rattle.smc_outside.specs.Causes.{Rose};
 ghost use Rattle.smc_shape.specs.Faults.{fault_of};
@@ -12,27 +12,37 @@ ghost use Rattle.smc_region.specs.Reached.{IsReached};
 ghost use Rattle.smc_core.specs.declared.section.TheConstants.{FIRST_EPOCH};
 ghost use Rattle.smc_replies.specs.Books.{no_books};
 ghost use Rattle.smc_replies.specs.Scripts.{CanRunPart};
-ghost use Rattle.smc_desk.specs.Runs.{HasClosed, MayOpen, PartEnds, PartsEnd, Writes, RunsAs, RunsTo, colls_asked, seen, shape_asked};
+ghost use Rattle.smc_desk.specs.Runs.{HasClosed, MayOpen, PartEnds, PartsEnd, Writes, RunsAs, RunsTo, colls_asked, end_of, scene_of, seen, shape_asked};
 
 use crate::books::Books;
+use crate::loads::load_table;
 use crate::outside::one;
 use crate::reply::Reply;
 use smc_core::Opening;
-use smc_outside::{Sink, write_all};
+use smc_load::LoadFault;
+use smc_outside::{Shelf, Sink, write_all};
 use smc_region::{Pass, Quiet, Region};
-use smc_script::{Numbered, Part, Room, Script, table_width};
+use smc_script::{Command, FileName, Numbered, Part, Room, Script, table_width};
 use smc_shape::{CollShape, Shape};
 use smc_types::Catalog;
 use smc_words::NoMemory;
 use std::alloc::Global;
 
 /// How the running of a script ends.
-#[derive(Clone, Copy, Debug, PartialEq, Eq)]
+#[derive(Debug, Drop)]
 pub enum RunEnd {
     /// Each command was run, and each reply was written.
     Done,
     /// The output failed, and has a front of the replies.
     WriteFault,
+    /// No file of the shelf has the name that was to be loaded.
+    NoFile { name: FileName },
+    /// This line of a file, counted from 1, is the first that is no row of its table.
+    BadTable { name: FileName, line: u64 },
+    /// The table had no room for the row of this line of a file.
+    TableFull { name: FileName, line: u64 },
+    /// The shelf failed.
+    ReadFault,
     /// Memory was refused. A front of the replies was written.
     NoMemory,
 }
@@ -84,12 +94,29 @@ fn write_reply<O: Sink>(out: &mut O, reply: &Reply) -> RunEnd
     }
 }
 
+// How the running ends where a load of this file stops at a fault.
+fn end_of(alloc: Global, file: &FileName, fault: LoadFault) -> RunEnd
+    ensures { (result ≡ RunEnd.NoMemory) ⊎ (result ≡ end_of file.now fault) }
+{
+    let Ok(name) = FileName::of(alloc, file.as_str()) else {
+        return RunEnd::NoMemory;
+    };
+    match fault {
+        LoadFault::NoFile => RunEnd::NoFile { name },
+        LoadFault::Tbl { line, .. } => RunEnd::BadTable { name, line },
+        LoadFault::Full { line } => RunEnd::TableFull { name, line },
+        LoadFault::ReadFault => RunEnd::ReadFault,
+        LoadFault::NoMemory => RunEnd::NoMemory,
+    }
+}
+
 // Runs one command, and writes its reply.
-fn run_one<O: Sink>(
+fn run_one<F: Shelf, O: Sink>(
     alloc: Global,
     numbered: &Numbered,
     catalog: &Catalog,
     books: &mut Books,
+    shelf: &mut F,
     pass: Pass,
     region: &Region,
     out: &mut O,
@@ -99,10 +126,20 @@ fn run_one<O: Sink>(
     requires tables { catalog.now ≡ the_tables }
     requires may { CanRunPart region.now.about.shape (trees.one (numbered_tree numbered.now)) }
     ensures home { IsSame pass result.0 × OwnsNone result.0 }
-    ensures ends { PartEnds result.1 (trees.one (numbered_tree numbered.now)) (seen books.old) (seen books.new) pass result.0 (O.held out.old) (O.held out.new) }
+    ensures ends { PartEnds (scene_of (F.files shelf.old) region.now.about.shape) result.1 (trees.one (numbered_tree numbered.now)) (seen books.old) (seen books.new) pass result.0 (O.held out.old) (O.held out.new) }
     ensures cause { result.1 ≡ RunEnd.WriteFault → Rose (O.faults out.old) (O.faults out.new) }
     ensures later { O.faults out.old ≤ O.faults out.new }
+    ensures read_cause { result.1 ≡ RunEnd.ReadFault → Rose (F.faults shelf.old) (F.faults shelf.new) }
+    ensures kept { F.files shelf.new ≡ F.files shelf.old }
+    ensures shelf_later { F.faults shelf.old ≤ F.faults shelf.new }
 {
+    if let Command::Load { place, file } = &numbered.command {
+        let (pass, answer) = load_table(alloc, *place, file, catalog, books, shelf, pass, region);
+        return match answer {
+            Ok(reply) => (pass, write_reply(out, &reply)),
+            Err(fault) => (pass, end_of(alloc, file, fault)),
+        };
+    }
     let (pass, reply) = one(alloc, &numbered.command, catalog, books, pass, region);
     match reply {
         Ok(reply) => (pass, write_reply(out, &reply)),
@@ -111,11 +148,12 @@ fn run_one<O: Sink>(
 }
 
 // Runs one part, and writes its reply.
-fn run_part<O: Sink>(
+fn run_part<F: Shelf, O: Sink>(
     alloc: Global,
     part: &Part,
     catalog: &Catalog,
     books: &mut Books,
+    shelf: &mut F,
     pass: Pass,
     region: &Region,
     out: &mut O,
@@ -125,22 +163,28 @@ fn run_part<O: Sink>(
     requires tables { catalog.now ≡ the_tables }
     requires may { CanRunPart region.now.about.shape (part_tree part.now) }
     ensures home { IsSame pass result.0 × OwnsNone result.0 }
-    ensures ends { PartEnds result.1 (part_tree part.now) (seen books.old) (seen books.new) pass result.0 (O.held out.old) (O.held out.new) }
+    ensures ends { PartEnds (scene_of (F.files shelf.old) region.now.about.shape) result.1 (part_tree part.now) (seen books.old) (seen books.new) pass result.0 (O.held out.old) (O.held out.new) }
     ensures cause { result.1 ≡ RunEnd.WriteFault → Rose (O.faults out.old) (O.faults out.new) }
     ensures later { O.faults out.old ≤ O.faults out.new }
+    ensures read_cause { result.1 ≡ RunEnd.ReadFault → Rose (F.faults shelf.old) (F.faults shelf.new) }
+    ensures kept { F.files shelf.new ≡ F.files shelf.old }
+    ensures shelf_later { F.faults shelf.old ≤ F.faults shelf.new }
 {
     match part {
-        Part::One(numbered) => run_one(alloc, numbered, catalog, books, pass, region, out),
+        Part::One(numbered) => {
+            run_one(alloc, numbered, catalog, books, shelf, pass, region, out)
+        }
         Part::Group { .. } => unreachable!(),
     }
 }
 
 // Runs the parts in order. The reply to each is written before the next one starts.
-fn run_parts<O: Sink>(
+fn run_parts<F: Shelf, O: Sink>(
     alloc: Global,
     parts: &[Part],
     catalog: &Catalog,
     books: &mut Books,
+    shelf: &mut F,
     pass: Pass,
     region: &Region,
     out: &mut O,
@@ -150,13 +194,16 @@ fn run_parts<O: Sink>(
     requires tables { catalog.now ≡ the_tables }
     requires may { AllByRecursion (CanRunPart region.now.about.shape) (map part_tree parts.now) }
     ensures home { IsSame pass result.0 × OwnsNone result.0 }
-    ensures ends { PartsEnd result.1 (map part_tree parts.now) (seen books.old) pass result.0 (O.held out.old) (O.held out.new) }
+    ensures ends { PartsEnd (scene_of (F.files shelf.old) region.now.about.shape) result.1 (map part_tree parts.now) (seen books.old) pass result.0 (O.held out.old) (O.held out.new) }
     ensures cause { result.1 ≡ RunEnd.WriteFault → Rose (O.faults out.old) (O.faults out.new) }
     ensures later { O.faults out.old ≤ O.faults out.new }
+    ensures read_cause { result.1 ≡ RunEnd.ReadFault → Rose (F.faults shelf.old) (F.faults shelf.new) }
+    ensures kept { F.files shelf.new ≡ F.files shelf.old }
+    ensures shelf_later { F.faults shelf.old ≤ F.faults shelf.new }
 {
     let mut pass = pass;
     for part in parts {
-        let (next, end) = run_part(alloc, part, catalog, books, pass, region, out);
+        let (next, end) = run_part(alloc, part, catalog, books, shelf, pass, region, out);
         pass = next;
         match end {
             RunEnd::Done => {}
@@ -167,10 +214,11 @@ fn run_parts<O: Sink>(
 }
 
 // Runs the parts of a whole script, before which nothing is known.
-fn run_all<O: Sink>(
+fn run_all<F: Shelf, O: Sink>(
     alloc: Global,
     parts: &[Part],
     catalog: &Catalog,
+    shelf: &mut F,
     pass: Pass,
     region: &Region,
     out: &mut O,
@@ -180,12 +228,15 @@ fn run_all<O: Sink>(
     requires tables { catalog.now ≡ the_tables }
     requires may { AllByRecursion (CanRunPart region.now.about.shape) (map part_tree parts.now) }
     ensures home { IsSame pass result.0 × OwnsNone result.0 }
-    ensures ends { PartsEnd result.1 (map part_tree parts.now) no_books pass result.0 (O.held out.old) (O.held out.new) }
+    ensures ends { PartsEnd (scene_of (F.files shelf.old) region.now.about.shape) result.1 (map part_tree parts.now) no_books pass result.0 (O.held out.old) (O.held out.new) }
     ensures cause { result.1 ≡ RunEnd.WriteFault → Rose (O.faults out.old) (O.faults out.new) }
     ensures later { O.faults out.old ≤ O.faults out.new }
+    ensures read_cause { result.1 ≡ RunEnd.ReadFault → Rose (F.faults shelf.old) (F.faults shelf.new) }
+    ensures kept { F.files shelf.new ≡ F.files shelf.old }
+    ensures shelf_later { F.faults shelf.old ≤ F.faults shelf.new }
 {
     let mut books = Books::new(alloc);
-    run_parts(alloc, parts, catalog, &mut books, pass, region, out)
+    run_parts(alloc, parts, catalog, &mut books, shelf, pass, region, out)
 }
 
 // A region without objects, and its one pass. The vector has room for that pass.
@@ -219,24 +270,27 @@ fn close_region(region: Region, pass: Pass, mut passes: Vec<Pass>) -> Result<Qui
 }
 
 // Runs the parts by the one pass of a new region, and closes it.
-fn run_in<O: Sink>(
+fn run_in<F: Shelf, O: Sink>(
     alloc: Global,
     catalog: &Catalog,
     shape: Shape,
     parts: &[Part],
+    shelf: &mut F,
     out: &mut O,
 ) -> Ran
     requires tables { catalog.now ≡ the_tables }
     requires one { shape.passes ≡ 1 }
     requires may { AllByRecursion (CanRunPart shape) (map part_tree parts.now) }
-    ensures ends { RunsAs (HasClosed shape) result.end (map part_tree parts.now) result.quiet (O.held out.old) (O.held out.new) }
+    ensures ends { RunsAs (HasClosed shape) (scene_of (F.files shelf.old) shape) result.end (map part_tree parts.now) result.quiet (O.held out.old) (O.held out.new) }
     ensures cause { result.end ≡ RunEnd.WriteFault → Rose (O.faults out.old) (O.faults out.new) }
     ensures later { O.faults out.old ≤ O.faults out.new }
+    ensures read_cause { result.end ≡ RunEnd.ReadFault → Rose (F.faults shelf.old) (F.faults shelf.new) }
+    ensures opened { result.end ≡ RunEnd.ReadFault → IsSome result.quiet }
 {
     let Ok((region, pass, passes)) = open_region(alloc, shape) else {
         return Ran::without(RunEnd::NoMemory);
     };
-    let (pass, end) = run_all(alloc, parts, catalog, pass, &region, out);
+    let (pass, end) = run_all(alloc, parts, catalog, shelf, pass, &region, out);
     if matches!(end, RunEnd::NoMemory) {
         return Ran::without(RunEnd::NoMemory);
     }
@@ -250,20 +304,28 @@ fn run_in<O: Sink>(
 }
 
 /// Runs a script without groups. Each reply is written before the next command starts.
-pub fn run_alone<O: Sink>(alloc: Global, script: &Script, catalog: &Catalog, out: &mut O) -> Ran
+pub fn run_alone<F: Shelf, O: Sink>(
+    alloc: Global,
+    script: &Script,
+    catalog: &Catalog,
+    shelf: &mut F,
+    out: &mut O,
+) -> Ran
     requires tables { catalog.now ≡ the_tables }
     requires opens { MayOpen script.now.rooms }
     requires may { AllByRecursion (CanRunPart (shape_asked script.now.rooms)) (map part_tree script.now.parts) }
-    ensures ends { RunsTo result.end (script_tree script.now) result.quiet (O.held out.old) (O.held out.new) }
+    ensures ends { RunsTo result.end (F.files shelf.old) (script_tree script.now) result.quiet (O.held out.old) (O.held out.new) }
     ensures cause { result.end ≡ RunEnd.WriteFault → Rose (O.faults out.old) (O.faults out.new) }
     ensures later { O.faults out.old ≤ O.faults out.new }
+    ensures read_cause { result.end ≡ RunEnd.ReadFault → Rose (F.faults shelf.old) (F.faults shelf.new) }
+    ensures opened { result.end ≡ RunEnd.ReadFault → IsSome result.quiet }
 {
     let rooms = script.rooms.as_slice();
     if rooms.is_empty() {
         return Ran::without(RunEnd::Done);
     }
     match shape_of(alloc, catalog, rooms) {
-        Ok(shape) => run_in(alloc, catalog, shape, script.parts.as_slice(), out),
+        Ok(shape) => run_in(alloc, catalog, shape, script.parts.as_slice(), shelf, out),
         Err(_) => Ran::without(RunEnd::NoMemory),
     }
 }

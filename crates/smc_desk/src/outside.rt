@@ -1,12 +1,12 @@
 //! A command outside a group.
-ghost use Rattle.std.specs.Prelude.{◌≡◌, ◌<◌, true, IfOk, length, map};
+ghost use Rattle.std.specs.Prelude.{◌≡◌, ◌<◌, true, false, IfOk, length, map};
 ghost use Rattle.smc_region.specs.Callers.{IsPassOf, IsSame};
 ghost use Rattle.smc_does.specs.Does.{DoesSome, OwnsNone};
 ghost use Rattle.smc_query.specs.Trees.{item_tree, query_tree};
 ghost use Rattle.smc_script.specs.Trees.{command_tree};
 ghost use Rattle.smc_types.specs.Tables.{the_tables};
 ghost use Rattle.smc_desk.specs.Runs.{seen};
-ghost use Rattle.smc_replies.specs.Commands.{CanRun, Counts, PacksTable, RunsCommand, count_row, counts_all, is_known, objects_line, shows_count};
+ghost use Rattle.smc_replies.specs.Commands.{CanRun, Counts, PacksTable, RunsCommand, count_row, counts_all, is_known, is_load, objects_line, shows_count};
 
 use crate::books::Books;
 use crate::objects::{add, get, remove, set};
@@ -66,7 +66,7 @@ fn compact(
     )
 }
 
-/// Runs one command outside a group. Answers its reply.
+/// Runs one command outside a group, which reads no file. Answers its reply.
 ///
 /// # Errors
 /// Memory was refused. The command may have been run, and there is no reply.
@@ -82,6 +82,7 @@ pub fn one(
     requires free { OwnsNone pass }
     requires tables { catalog.now ≡ the_tables }
     requires can { CanRun region.now.about.shape (command_tree c.now) }
+    requires plain { is_load (command_tree c.now) ≡ false }
     ensures done { IfOk result.1 (λ reply. DoesSome pass result.0 (λ calls. RunsCommand (command_tree c.now) (seen books.old) (seen books.new) calls reply)) }
     ensures home { IsSame pass result.0 × OwnsNone result.0 }
 {
@@ -127,15 +128,15 @@ fn counts_all(query: &Query) -> bool
         && query.first.is_none()
 }
 
-/// Whether the command is one that `one` runs.
+/// Whether the command is one that is run.
 pub fn is_known(c: &Command) -> bool
     ensures { result ≡ is_known (command_tree c.now) }
 {
     match c {
         Command::Stat { .. } => true,
         Command::Query { query, .. } => counts_all(query),
-        Command::Compact { .. } | Command::Add { .. } | Command::Get { .. } => true,
-        Command::Set { .. } | Command::Remove { .. } => true,
+        Command::Load { .. } | Command::Compact { .. } | Command::Add { .. } => true,
+        Command::Get { .. } | Command::Set { .. } | Command::Remove { .. } => true,
         _ => false,
     }
 }

@@ -1,6 +1,7 @@
 //! The reply to a command.
 ghost use Rattle.std.specs.Prelude.{◌≡◌, IfOk, codes, length, string_bytes};
 ghost use Rattle.smc_types.specs.Columns.{columns_width};
+ghost use Rattle.smc_replies.specs.Loads.{loaded_line};
 ghost use Rattle.smc_replies.specs.Objects.{PrintsObject, add_line, found_line, null_line};
 ghost use Rattle.smc_replies.specs.Commands.{count_row, objects_line, packed_line, packed_reply};
 
@@ -76,6 +77,13 @@ pub(crate) fn packed_reply(alloc: Global, table: &str, packed: Packed) -> Result
         Outcome::Spent => String::from_str(alloc, "spent\n")?,
     };
     Ok(Reply::of(text))
+}
+
+/// The reply to the loading of so many rows of the table of this name.
+pub(crate) fn loaded_reply(alloc: Global, table: &str, count: u64) -> Result<Reply, NoMemory>
+    ensures { IfOk result (λ reply. reply ≡ loaded_line table.now count) }
+{
+    Ok(Reply::of(format!(in alloc; "loaded {table} {count}\n")?))
 }
 
 /// The reply where a name has no object, or where its object is not found.

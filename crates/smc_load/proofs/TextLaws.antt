@@ -152,13 +152,6 @@ module _ (schema : Schema) (table coll : ℕ) where
         does-behind first last last old new rows [] (λ rs ws. IfSome text (HasRows schema rs)) (λ ws. MayAddRow coll (record_of schema.columns new ws)) loaded ([], does-nothing last, inl refl)
         (taken-some schema text before rows so_far)
 
-    -- at the end of the text
-    pub all-loaded : (count : ℕ) → OnTold before after (ReadsWords schema (Ok false) words) → length rows ≡ count → count ≤ MAX_LINES
-        → DoesSome first last (LoadsText (Ok count) schema table coll old new text)
-    all-loaded count next same few =
-        does-some first last old new rows (λ rs. (count ≡ length rs) × IfSome text (IsTable schema rs)) loaded
-        (sym same, taken-all schema text before after words rows so_far next (omega (arith, same, few)))
-
     -- at a row that was not loaded
     pub row-ends : (fault : RowFault) (line : ℕ) (end : Caller) (keys : Entries) → OnTold before after (ReadsWords schema (Ok true) words) → line ≡ length rows + 1
         → RowEnds (Err fault) schema table coll new keys words last end → DoesSome first end (LoadsText (Err (row_fault fault line)) schema table coll old keys text)

@@ -31,11 +31,9 @@ HasRows schema rows text = (behind : List (List ℕ)) × BeginsWith schema rows 
 abbrev pub IsTable : Schema → List (List ℕ) → List ℕ → Type 0
 IsTable schema rows text = BeginsWith schema rows [] text × (length rows ≤ MAX_LINES)
 
--- behind so many lines come these, the first of which is refused for this fault; none is for one of the outside
+-- behind so many lines come these, the first of which is refused for this fault
 abbrev pub IsRefused : Schema → TblFault → ℕ → List (List ℕ) → Type 0
 IsRefused schema tbl.TooManyLines number behind = (number ≡ MAX_LINES) × (behind ≢ [])
-IsRefused schema tbl.ReadFault number behind = ⊥
-IsRefused schema tbl.NoMemory number behind = ⊥
 IsRefused schema fault number [] = ⊥
 IsRefused schema fault number (line ∷ later) = (number < MAX_LINES) × Gives schema (strip_carriage_return line) (Err fault)
 

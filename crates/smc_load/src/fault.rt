@@ -1,4 +1,3 @@
-//! Why the rows of a file are not all loaded.
 ghost use Rattle.std.specs.Prelude.{◌≡◌};
 ghost use Rattle.smc_load.specs.declared.fault.LoadFault.TheVariants as load;
 

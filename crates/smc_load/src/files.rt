@@ -78,8 +78,7 @@ pub fn load<F: Shelf>(
     requires coll { coll < length region.now.about.shape.colls }
     requires width { columns_width schema.now.columns ≡ width_of region.now.about.shape coll }
     ensures ends { DoesSome pass result.0 (LoadsFile result.1 (F.files shelf.old) name.now schema.now table coll keys.old keys.new) }
-    ensures home { IsSame pass result.0 }
-    ensures free { OwnsNone pass → OwnsNone result.0 }
+    ensures home { IsSame pass result.0 × (OwnsNone pass → OwnsNone result.0) }
     ensures failed { result.1 ≡ Err LoadFault.ReadFault → Rose (F.faults shelf.old) (F.faults shelf.new) }
     ensures kept { F.files shelf.new ≡ F.files shelf.old }
     ensures later { F.faults shelf.old ≤ F.faults shelf.new }

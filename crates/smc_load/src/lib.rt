@@ -17,8 +17,6 @@ mod files;
 mod references;
 mod rows;
 mod table;
-#[cfg(test)]
-mod tests;
 
 pub use fault::LoadFault;
 pub use files::load;

@@ -55,8 +55,7 @@ pub fn load_rows<S: Source>(
     requires coll { coll < length region.now.about.shape.colls }
     requires width { columns_width schema.now.columns ≡ width_of region.now.about.shape coll }
     ensures ends { DoesSome pass result.0 (LoadsText result.1 schema.now table coll keys.old keys.new (S.left source.old)) }
-    ensures home { IsSame pass result.0 }
-    ensures free { OwnsNone pass → OwnsNone result.0 }
+    ensures home { IsSame pass result.0 × (OwnsNone pass → OwnsNone result.0) }
     ensures failed { result.1 ≡ Err LoadFault.ReadFault → Rose (S.faults source.old) (S.faults source.new) }
     ensures later { S.faults source.old ≤ S.faults source.new }
 {

@@ -2,4 +2,5 @@ pub mod Replied
 pub mod Fronts
 pub mod PackFronts
 pub mod ObjectFronts
+pub mod LoadFronts
 pub mod PartLaws

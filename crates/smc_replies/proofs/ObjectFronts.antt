@@ -1,5 +1,5 @@
 -- The calls of a command on one object are read off from the front of a trace.
-use Rattle.std.proofs.Common.{◌≡◌, ◌⊎◌, ℕ, ◌+◌, ℤ, Bool, true, false, Option, Some, None, List, [], ◌∷◌, ◌++◌, Result, Ok, Err, IsOk, inl, inr, refl, sym, subst, ap, ◌∙◌, append_assoc}
+use Rattle.std.proofs.Common.{◌≡◌, ℕ, ◌+◌, ℤ, Bool, true, false, Option, Some, None, List, [], ◌∷◌, ◌++◌, Result, Ok, Err, IsOk, inl, inr, refl, sym, subst, ap, ◌∙◌, append_assoc}
 use Rattle.std.specs.Prelude.{⊤, if◌then◌else◌}
 use Rattle.smc_words.specs.declared.number.Number.{Number}
 use Rattle.smc_model.specs.declared.event.Cause.{Cause}
@@ -13,7 +13,7 @@ use Rattle.smc_objects.specs.Fulls.{adds}
 use Rattle.smc_query.specs.Trees.{Word}
 use Rattle.smc_types.specs.declared.column.Column.{Column}
 use Rattle.smc_types.specs.declared.column.FieldType.{FieldType}
-use Rattle.smc_types.specs.declared.column.FieldType.TheVariants.{Count, Amount, Rate, Day, Text, RefTo}
+use Rattle.smc_types.specs.declared.column.FieldType.TheVariants.{Count, Amount, Rate, Day, Text}
 use Rattle.smc_types.specs.declared.row.Value.{Value}
 use Rattle.smc_types.specs.declared.row.Value.TheVariants.{Number as OfNumber, Day as OfDay, Text as OfText}
 use Rattle.smc_types.specs.declared.schema.Schema.{Schema}
@@ -31,7 +31,7 @@ use Rattle.smc_replies.proofs.Fronts.{first-done, first-event, later-calls}
 -- ---- one call and the next
 
 -- two fronts may be given by equal lists
-given : (s t first other rest behind : List CallEnd) → first ≡ s → other ≡ t → first ++ rest ≡ other ++ behind → s ++ rest ≡ t ++ behind
+pub given : (s t first other rest behind : List CallEnd) → first ≡ s → other ≡ t → first ++ rest ≡ other ++ behind → s ++ rest ≡ t ++ behind
 given s t first other rest behind a b same = sym (ap (λ (x : List CallEnd). x ++ rest) a) ∙ same ∙ ap (λ (x : List CallEnd). x ++ behind) b
 
 -- what stands behind the enter of two sections
@@ -243,7 +243,7 @@ twice-front c d words said a b first other rest behind one two same =
     let wait = wait-front one.wait two.wait (one.again ++ rest) (two.again ++ behind) one.waits two.waits once.1 in
     try-front c d words said a b one.again two.again rest behind one.tries two.tries wait
 
-rows-front : (c d : ℕ) (words said : List ℕ) (a b : Result Number Full) (first other rest behind : List CallEnd)
+pub rows-front : (c d : ℕ) (words said : List ℕ) (a b : Result Number Full) (first other rest behind : List CallEnd)
     → AddsRow c words a first → AddsRow d said b other → first ++ rest ≡ other ++ behind → IsOneAnswer a b × (rest ≡ behind)
 rows-front c d words said a b first other rest behind (inl one) (inl two) same = try-front c d words said a b first other rest behind one.1 two.1 same
 rows-front c d words said a b first other rest behind (inr one) (inr two) same = twice-front c d words said a b first other rest behind one two same

@@ -1,20 +1,22 @@
 -- Parts that are run one behind another.
-use Rattle.std.proofs.Common.{◌≡◌, ℕ, Option, List, [], ◌∷◌, ◌++◌, refl, sym, subst, ap, ◌∙◌, append_assoc, append-nil}
+use Rattle.std.proofs.Common.{◌≡◌, ℕ, List, [], ◌∷◌, ◌++◌, refl, sym, subst, ap, ◌∙◌, append_assoc, append-nil}
 use Rattle.smc_words.specs.declared.number.Number.{Number}
 use Rattle.smc_trace.specs.Trace.{CallEnd}
 use Rattle.smc_query.specs.Trees.{Word}
 use Rattle.smc_types.specs.Tables.{the_tables}
 use Rattle.smc_script.specs.Tables.{schema_of}
-use Rattle.smc_script.specs.Trees.{PartTree, add, compact, get, one, group, query, remove, set, stat}
-use Rattle.smc_script.specs.declared.script.Place.{Place}
+use Rattle.smc_script.specs.Sound.{EachCommand}
+use Rattle.smc_script.specs.Trees.{CommandTree, PartTree, add, compact, get, load, one, group, query, remove, set, stat}
 use Rattle.smc_replies.specs.Books.{Books, Named, object_of}
-use Rattle.smc_replies.specs.Laws.{CommandIsOne, IsOnePart, OnePartMore, TextIsOne}
+use Rattle.smc_replies.specs.Laws.{CommandIsOne, IsOnePart, OnePartMore, TellsLoad, TextIsOne}
 use Rattle.smc_replies.specs.Objects.{GetsBy, OnObject, RemovesNamed, SetsBy}
 use Rattle.smc_replies.specs.Scripts.{RunsPart, RunsParts}
-use Rattle.smc_replies.specs.Commands.{count_row, objects_line}
+use Rattle.smc_replies.specs.Loads.{Scene}
+use Rattle.smc_replies.specs.Commands.{RunsCommand, count_row, objects_line}
 use Rattle.smc_replies.proofs.Replied.{IsOneReply, part-of}
 use Rattle.smc_replies.proofs.Fronts.{counts-one}
 use Rattle.smc_replies.proofs.PackFronts.{packs-one}
+use Rattle.smc_replies.proofs.LoadFronts.{loads-one}
 use Rattle.smc_replies.proofs.ObjectFronts.{DayHasOneText, adds-one, gets-one, on-object-one, removes-one, sets-one}
 
 -- the names before are those behind, where the command gives none
@@ -29,81 +31,99 @@ on-name-one names others coll name does first other rest behind text said each a
     on-object-one (object_of others coll name) does first other rest behind text said each
     (subst (λ (x : List Named). OnObject (object_of x coll name) does first text) are runs) again same
 
-pub command-one : DayHasOneText → CommandIsOne
-command-one days (stat place) old new before after first other rest behind text said are runs again same =
+-- a command that reads no file
+plain-one : DayHasOneText → (c : CommandTree) (old new before after : Books) (first other rest behind : List CallEnd) (text said : List ℕ) → old.names ≡ before.names
+    → RunsCommand c old new first text → RunsCommand c before after other said → first ++ rest ≡ other ++ behind → IsOnePart new after first other rest behind text said
+plain-one days (stat place) old new before after first other rest behind text said are runs again same =
     part-of new after first other rest behind text said same (counts-one objects_line place.coll first other rest behind text said runs.1 again.1 same) (names-kept old new before after are runs.0 again.0)
-command-one days (query place tree) old new before after first other rest behind text said are runs again same =
+plain-one days (query place tree) old new before after first other rest behind text said are runs again same =
     part-of new after first other rest behind text said same (counts-one count_row place.coll first other rest behind text said runs.1.1 again.1.1 same) (names-kept old new before after are runs.0 again.0)
-command-one days (compact place) old new before after first other rest behind text said are runs again same =
+plain-one days (compact place) old new before after first other rest behind text said are runs again same =
     part-of new after first other rest behind text said same (packs-one place first other rest behind text said runs.1 again.1 same) (names-kept old new before after are runs.0 again.0)
-command-one days (add place name row) old new before after first other rest behind text said are runs again same =
+plain-one days (add place name row) old new before after first other rest behind text said are runs again same =
     let read = adds-one (schema_of the_tables place.table) place name row old new before after first other rest behind text said are runs again same in
     part-of new after first other rest behind text said same read.0 read.1
-command-one days (get place name) old new before after first other rest behind text said are runs again same =
+plain-one days (get place name) old new before after first other rest behind text said are runs again same =
     let schema = schema_of the_tables place.table in
     part-of new after first other rest behind text said same
     (on-name-one old.names before.names place.coll name (GetsBy schema) first other rest behind text said
     (λ number here there. gets-one days schema number first other rest behind text said here there same) are runs.1 again.1 same)
     (names-kept old new before after are runs.0 again.0)
-command-one days (set place name column value) old new before after first other rest behind text said are runs again same =
+plain-one days (set place name column value) old new before after first other rest behind text said are runs again same =
     let schema = schema_of the_tables place.table in
     part-of new after first other rest behind text said same
     (on-name-one old.names before.names place.coll name (SetsBy schema column value) first other rest behind text said
     (λ number here there. sets-one schema column value number first other rest behind text said here there same) are runs.1 again.1 same)
     (names-kept old new before after are runs.0 again.0)
-command-one days (remove place name) old new before after first other rest behind text said are runs again same =
+plain-one days (remove place name) old new before after first other rest behind text said are runs again same =
     part-of new after first other rest behind text said same
     (on-name-one old.names before.names place.coll name RemovesNamed first other rest behind text said
     (λ number here there. removes-one number first other rest behind text said here there same) are runs.1 again.1 same)
     (names-kept old new before after are runs.0 again.0)
-command-one days _ old new before after first other rest behind text said are runs again same = absurd runs
+plain-one days _ old new before after first other rest behind text said are runs again same = absurd runs
 
-pub part-one : DayHasOneText → (part : PartTree) (old new before after : Books) (first other rest behind : List CallEnd) (text said : List ℕ) → old.names ≡ before.names
-    → RunsPart part old new first text → RunsPart part before after other said → first ++ rest ≡ other ++ behind → IsOnePart new after first other rest behind text said
-part-one days (one numbered) old new before after first other rest behind text said are runs again same =
-    command-one days numbered.command old new before after first other rest behind text said are runs again same
-part-one days (group workers) old new before after first other rest behind text said are runs again same = absurd runs
+pub command-one : DayHasOneText → CommandIsOne
+command-one days scene (load place file) old new before after first other rest behind text said tells are runs again same =
+    let read = loads-one scene.files (schema_of the_tables place.table) place file old new before after first other rest behind text said tells are runs again same in
+    part-of new after first other rest behind text said same read.0 read.1
+command-one days scene (add place name row) old new before after first other rest behind text said tells are runs again same = plain-one days (add place name row) old new before after first other rest behind text said are runs again same
+command-one days scene (get place name) old new before after first other rest behind text said tells are runs again same = plain-one days (get place name) old new before after first other rest behind text said are runs again same
+command-one days scene (remove place name) old new before after first other rest behind text said tells are runs again same = plain-one days (remove place name) old new before after first other rest behind text said are runs again same
+command-one days scene (set place name column value) old new before after first other rest behind text said tells are runs again same =
+    plain-one days (set place name column value) old new before after first other rest behind text said are runs again same
+command-one days scene (query place tree) old new before after first other rest behind text said tells are runs again same = plain-one days (query place tree) old new before after first other rest behind text said are runs again same
+command-one days scene (compact place) old new before after first other rest behind text said tells are runs again same = plain-one days (compact place) old new before after first other rest behind text said are runs again same
+command-one days scene (stat place) old new before after first other rest behind text said tells are runs again same = plain-one days (stat place) old new before after first other rest behind text said are runs again same
+command-one days scene _ old new before after first other rest behind text said tells are runs again same = absurd runs
+
+pub part-one : DayHasOneText → (scene : Scene) (part : PartTree) (old new before after : Books) (first other rest behind : List CallEnd) (text said : List ℕ) → EachCommand (TellsLoad scene) part
+    → old.names ≡ before.names → RunsPart scene part old new first text → RunsPart scene part before after other said → first ++ rest ≡ other ++ behind
+    → IsOnePart new after first other rest behind text said
+part-one days scene (one numbered) old new before after first other rest behind text said tells are runs again same =
+    command-one days scene numbered.command old new before after first other rest behind text said tells are runs again same
+part-one days scene (group workers) old new before after first other rest behind text said tells are runs again same = absurd runs
 
 -- nothing was run
-pub runs-none : (books : Books) → RunsParts [] books books [] []
-runs-none books = (refl, refl, refl)
+pub runs-none : (scene : Scene) (books : Books) → RunsParts scene [] books books [] []
+runs-none scene books = (refl, refl, refl)
 
 -- the calls of parts may be given by an equal list
-pub runs-same : (parts : List PartTree) (old new : Books) (calls others : List CallEnd) (text : List ℕ) → calls ≡ others → RunsParts parts old new calls text → RunsParts parts old new others text
-runs-same parts old new calls others text is runs = subst (λ (x : List CallEnd). RunsParts parts old new x text) is runs
+pub runs-same : (scene : Scene) (parts : List PartTree) (old new : Books) (calls others : List CallEnd) (text : List ℕ) → calls ≡ others → RunsParts scene parts old new calls text
+    → RunsParts scene parts old new others text
+runs-same scene parts old new calls others text is runs = subst (λ (x : List CallEnd). RunsParts scene parts old new x text) is runs
 
 -- a front of two lists, and what is behind it
 joined : {A : Type 0} (whole front back more : List A) → whole ≡ front ++ back → whole ++ more ≡ front ++ (back ++ more)
 joined whole front back more is = ap (λ x. x ++ more) is ∙ append_assoc front back more
 
 pub one-more : OnePartMore
-one-more [] part old middle new before calls text said runs more = (
+one-more scene [] part old middle new before calls text said runs more = (
   new,
   calls,
   [],
   said,
   [],
-  subst (λ (b : Books). RunsPart part b new calls said) runs.0 more,
+  subst (λ (b : Books). RunsPart scene part b new calls said) runs.0 more,
   (refl, refl, refl),
   ap (λ (x : List CallEnd). x ++ calls) runs.1 ∙ sym (append-nil calls),
   ap (λ (x : List ℕ). x ++ said) runs.2 ∙ sym (append-nil said),
 )
-one-more (p ∷ ps) part old middle new before calls text said runs more = (
+one-more scene (p ∷ ps) part old middle new before calls text said runs more = (
   runs.0,
   runs.1,
   runs.2 ++ calls,
   runs.3,
   runs.4 ++ said,
   runs.5,
-  one-more ps part runs.0 middle new runs.2 calls runs.4 said runs.6 more,
+  one-more scene ps part runs.0 middle new runs.2 calls runs.4 said runs.6 more,
   joined before runs.1 runs.2 calls runs.7,
   joined text runs.3 runs.4 said runs.8,
 )
 
 pub text-one : DayHasOneText → TextIsOne
-text-one days [] old new before after calls text said are runs again = runs.2 ∙ sym again.2
-text-one days (part ∷ later) old new before after calls text said are runs again =
-    let same = part-one days part old runs.0 before again.0 runs.1 again.1 runs.2 again.2 runs.3 again.3 are runs.5 again.5 (sym runs.7 ∙ again.7) in
-    let moved : RunsParts later again.0 after runs.2 again.4 = runs-same later again.0 after again.2 runs.2 again.4 (sym same.later) again.6 in
-    let behind : runs.4 ≡ again.4 = text-one days later runs.0 new again.0 after runs.2 runs.4 again.4 same.names runs.6 moved in
+text-one days scene [] old new before after calls text said tells are runs again = runs.2 ∙ sym again.2
+text-one days scene (part ∷ later) old new before after calls text said tells are runs again =
+    let same = part-one days scene part old runs.0 before again.0 runs.1 again.1 runs.2 again.2 runs.3 again.3 tells.0 are runs.5 again.5 (sym runs.7 ∙ again.7) in
+    let moved : RunsParts scene later again.0 after runs.2 again.4 = runs-same scene later again.0 after again.2 runs.2 again.4 (sym same.later) again.6 in
+    let behind : runs.4 ≡ again.4 = text-one days scene later runs.0 new again.0 after runs.2 runs.4 again.4 tells.1 same.names runs.6 moved in
     runs.8 ∙ ap (λ (x : List ℕ). x ++ runs.4) same.reply ∙ ap (λ (x : List ℕ). again.3 ++ x) behind ∙ sym again.8

@@ -12,13 +12,15 @@ use Rattle.smc_compact.specs.Packs.{Packs}
 use Rattle.smc_types.specs.Tables.{the_tables}
 use Rattle.smc_types.specs.declared.schema.Schema.{Schema}
 use Rattle.smc_query.specs.Trees as trees
-use Rattle.smc_query.specs.Trees.{CallTree, ItemTree, QueryTree}
+use Rattle.smc_query.specs.Trees.{CallTree, ItemTree, QueryTree, Word}
 use Rattle.smc_types.specs.Columns.{columns_width}
 use Rattle.smc_script.specs.Sound.{FitsColumn, FitsTable}
 use Rattle.smc_script.specs.Tables.{schema_of}
-use Rattle.smc_script.specs.Trees.{CommandTree, add, compact, get, query, remove, set, stat}
+use Rattle.smc_script.specs.Trees.{CommandTree, load, add, compact, get, query, remove, set, stat}
 use Rattle.smc_script.specs.declared.script.Place.{Place}
+use Rattle.smc_load.specs.declared.fault.LoadFault.{LoadFault}
 use Rattle.smc_replies.specs.Books.{Books, object_of}
+use Rattle.smc_replies.specs.Loads.{Scene, LoadsBy, StopsBy}
 use Rattle.smc_replies.specs.Objects.{AddsBy, GetsBy, OnObject, RemovesNamed, SetsBy}
 use Rattle.smc_replies.specs.declared.limits.TheConstants.{COMPACT_TURNS}
 
@@ -93,6 +95,7 @@ AnswersCount place tree calls text = (counts_all tree ≡ true) × Counts count_
 
 -- the commands that are run; a script that has another one is refused at its line, as one with a line that is no command
 abbrev pub is_known : CommandTree → Bool
+is_known (load place file) = true
 is_known (stat place) = true
 is_known (query place tree) = counts_all tree
 is_known (compact place) = true
@@ -117,6 +120,7 @@ pub record IsTableOf (shape : Layout) (place : Place) : Type 0 where
 
 -- the command may be run on a region of this shape
 abbrev pub CanRun : Layout → CommandTree → Type 0
+CanRun shape (load place file) = IsTableOf shape place
 CanRun shape (stat place) = IsCollOf shape place
 CanRun shape (query place tree) = (counts_all tree ≡ true) × IsCollOf shape place
 CanRun shape (compact place) = IsCollOf shape place
@@ -128,7 +132,12 @@ CanRun shape _ = ⊥
 
 -- ---- what it does
 
--- the command, with what was known before it and what is known after it, makes these calls, and this is its reply
+-- whether the command reads a file
+abbrev pub is_load : CommandTree → Bool
+is_load (load place file) = true
+is_load command = false
+
+-- a command that reads no file, with what was known before it and what is known after it, makes these calls, and this is its reply
 abbrev pub RunsCommand : CommandTree → Books → Books → List CallEnd → List ℕ → Type 0
 RunsCommand (stat place) old new calls text = (new ≡ old) × Counts objects_line place.coll calls text
 RunsCommand (query place tree) old new calls text = (new ≡ old) × AnswersCount place tree calls text
@@ -140,3 +149,13 @@ RunsCommand (set place name column value) old new calls text =
     (new ≡ old) × OnObject (object_of old.names place.coll name) (SetsBy (schema_of the_tables place.table) column value) calls text
 RunsCommand (remove place name) old new calls text = (new ≡ old) × OnObject (object_of old.names place.coll name) RemovesNamed calls text
 RunsCommand _ old new calls text = ⊥
+
+-- the same of any command, over the files of its scene
+abbrev pub RunsIn : Scene → CommandTree → Books → Books → List CallEnd → List ℕ → Type 0
+RunsIn scene (load place file) old new calls text = LoadsBy (schema_of the_tables place.table) scene.files place file old new calls text
+RunsIn scene command old new calls text = RunsCommand command old new calls text
+
+-- the command is a load of this file, which stops at the fault behind these calls
+abbrev pub StopsIn : Scene → Word → LoadFault → CommandTree → Books → List CallEnd → Type 0
+StopsIn scene named fault (load place file) old calls = (named ≡ file) × StopsBy (schema_of the_tables place.table) scene.files fault place file old calls
+StopsIn scene named fault command old calls = ⊥

@@ -1,5 +1,6 @@
 pub mod Books
 pub mod Objects
+pub mod Loads
 pub mod Commands
 pub mod Scripts
 pub mod Laws

@@ -2,9 +2,12 @@
 use Rattle.std.specs.Prelude.{◌≡◌, ℕ, Bool, false, if◌then◌else◌, Option, Some, None, List, [], ◌∷◌, ◌++◌}
 use Rattle.smc_shape.specs.Layout.{Layout}
 use Rattle.smc_trace.specs.Trace.{CallEnd}
+use Rattle.smc_query.specs.Trees.{Word}
+use Rattle.smc_load.specs.declared.fault.LoadFault.{LoadFault}
 use Rattle.smc_script.specs.Trees.{NumberedTree, PartTree, one, group}
 use Rattle.smc_replies.specs.Books.{Books}
-use Rattle.smc_replies.specs.Commands.{CanRun, RunsCommand, is_known}
+use Rattle.smc_replies.specs.Loads.{Scene}
+use Rattle.smc_replies.specs.Commands.{CanRun, RunsIn, StopsIn, is_known}
 
 -- the line of the first command of these
 abbrev pub first_line : List NumberedTree → ℕ
@@ -32,13 +35,18 @@ abbrev pub CanRunPart : Layout → PartTree → Type 0
 CanRunPart shape (one numbered) = CanRun shape numbered.command
 CanRunPart shape (group workers) = ⊥
 
--- a part, with what was known before it and what is known after it, makes these calls, and this is its reply
-abbrev pub RunsPart : PartTree → Books → Books → List CallEnd → List ℕ → Type 0
-RunsPart (one numbered) old new calls text = RunsCommand numbered.command old new calls text
-RunsPart (group workers) old new calls text = ⊥
+-- in this scene a part, with what was known before it and what is known after it, makes these calls, and this is its reply
+abbrev pub RunsPart : Scene → PartTree → Books → Books → List CallEnd → List ℕ → Type 0
+RunsPart scene (one numbered) old new calls text = RunsIn scene numbered.command old new calls text
+RunsPart scene (group workers) old new calls text = ⊥
 
 -- parts that are run one behind another: their calls and their replies in one list
-abbrev pub RunsParts : List PartTree → Books → Books → List CallEnd → List ℕ → Type 0
-RunsParts [] old new calls text = (new ≡ old) × (calls ≡ []) × (text ≡ [])
-RunsParts (part ∷ later) old new calls text = (middle : Books) × (first rest : List CallEnd) × (said behind : List ℕ) × RunsPart part old middle first said
-    × RunsParts later middle new rest behind × (calls ≡ first ++ rest) × (text ≡ said ++ behind)
+abbrev pub RunsParts : Scene → List PartTree → Books → Books → List CallEnd → List ℕ → Type 0
+RunsParts scene [] old new calls text = (new ≡ old) × (calls ≡ []) × (text ≡ [])
+RunsParts scene (part ∷ later) old new calls text = (middle : Books) × (first rest : List CallEnd) × (said behind : List ℕ) × RunsPart scene part old middle first said
+    × RunsParts scene later middle new rest behind × (calls ≡ first ++ rest) × (text ≡ said ++ behind)
+
+-- the part is a load of this file, which stops at the fault behind these calls
+abbrev pub StopsPart : Scene → Word → LoadFault → PartTree → Books → List CallEnd → Type 0
+StopsPart scene named fault (one numbered) old calls = StopsIn scene named fault numbered.command old calls
+StopsPart scene named fault (group workers) old calls = ⊥

@@ -1,5 +1,6 @@
 //! Each function is a theorem over the definitions in `specs`, and does nothing.
 ghost use Rattle.smc_replies.specs.Books.{no_books};
+ghost use Rattle.smc_replies.specs.Loads.{Scene};
 ghost use Rattle.smc_replies.specs.Laws.{CommandIsOne, OnePartMore, TextIsOne};
 ghost use Rattle.smc_replies.specs.Scripts.{RunsParts};
 ghost use Rattle.smc_replies.specs.Worked.{its_calls, its_text, one_query, their_calls, their_text, two_stats};
@@ -29,10 +30,10 @@ pub fn one_part_more()
 
 /// Two commands over two objects print how many objects there are.
 pub fn worked_stats()
-    ensures { RunsParts two_stats no_books no_books their_calls their_text }
+    ensures { (scene : Scene) → RunsParts scene two_stats no_books no_books their_calls their_text }
 {}
 
 /// A query for their number prints it as a row.
 pub fn worked_query()
-    ensures { RunsParts one_query no_books no_books its_calls its_text }
+    ensures { (scene : Scene) → RunsParts scene one_query no_books no_books its_calls its_text }
 {}

@@ -1,7 +1,7 @@
 -- A script that was read may be run, where all its commands are known; and how a run ends, from what was read.
 use Rattle.std.proofs.Common.{◌≡◌, ℕ, zero, suc, ◌<◌, Bool, true, false, List, [], ◌∷◌, inl, inr, Option, Some, None, IfSome, Ok, Err, length, map, refl, sym, subst, ap, ◌∙◌, arith}
 use Rattle.std.specs.Option.{option_or}
-use Rattle.std.specs.Prelude.{if◌then◌else◌, slice_get}
+use Rattle.std.specs.Prelude.{IsSome, if◌then◌else◌, slice_get}
 use Rattle.std.specs.List.{AllByRecursion}
 use Rattle.std.proofs.KnownBytes.{Keeps-refl}
 use Rattle.std.proofs.lemmas.Bool.Decides.{nat_tests}
@@ -11,6 +11,9 @@ use Rattle.smc_shape.specs.declared.coll.CollShape.{CollShape}
 use Rattle.smc_shape.specs.Faults.{colls_fault, count_fault, fault_of, passes_fault, size_fault, width_fault}
 use Rattle.smc_shape.specs.Layout.{asked, asked_coll, width_of, words_of}
 use Rattle.smc_region.specs.Ends.{Ended}
+use Rattle.smc_trace.specs.Trace.{CallEnd}
+use Rattle.smc_history.specs.Happened.{WhatHappenedIsLawful}
+use Rattle.smc_replies.specs.Loads.{Scene}
 use Rattle.smc_query.specs.Trees.{Word}
 use Rattle.smc_types.specs.Tables.{the_tables}
 use Rattle.smc_types.specs.declared.catalog.Catalog.{Catalog}
@@ -19,19 +22,22 @@ use Rattle.smc_script.specs.Scripts.{Answers, TextGives}
 use Rattle.smc_script.specs.Sound.{EachCommand, IsFit, IsPlaced, IsPlacedAmong, IsRoomPlace, Opens, coll_of_room}
 use Rattle.smc_script.specs.Tables.{schema_of, table_width, width_by}
 use Rattle.smc_script.specs.declared.script.Place.{Place}
-use Rattle.smc_script.specs.Trees.{CommandTree, PartTree, ScriptTree, add, compact, get, one, group, query, remove, set, stat}
+use Rattle.smc_script.specs.Trees.{CommandTree, PartTree, ScriptTree, add, compact, get, load, one, group, query, remove, set, stat}
 use Rattle.smc_script.specs.declared.fault.ScriptFault.{ScriptFault}
 use Rattle.smc_script.specs.declared.fault.ScriptFault.TheVariants.{Bad}
 use Rattle.smc_script.specs.declared.fault.ScriptFault.TheVariants as fault
 use Rattle.smc_script.specs.declared.fault.ScriptKind.{ScriptKind}
 use Rattle.smc_script.specs.declared.script.Room.{Room}
+use Rattle.smc_load.specs.Files.{Told}
 use Rattle.smc_replies.specs.Commands.{CanRun, IsCollOf, IsTableOf, is_known}
 use Rattle.smc_replies.specs.Scripts.{CanRunPart, is_known_part, line_of, unknown_line}
-use Rattle.smc_desk.specs.Runs.{MayOpen, colls_asked, shape_asked}
+use Rattle.smc_desk.specs.declared.alone.RunEnd.{RunEnd}
+use Rattle.smc_desk.specs.declared.alone.RunEnd.TheVariants as end
+use Rattle.smc_desk.specs.Runs.{Closes, MayOpen, RunsAs, colls_asked, shape_asked}
 use Rattle.smc_run.specs.declared.status.Status.{Status}
-use Rattle.smc_run.specs.declared.status.Status.TheVariants.{Done, BadScript, WriteFault, NoMemory}
+use Rattle.smc_run.specs.declared.status.Status.TheVariants.{Done, BadScript, BadTable, NoFile, ReadFault, WriteFault, TableFull, NoMemory}
 use Rattle.smc_run.specs.Ending.{refused_at}
-use Rattle.smc_run.specs.Inputs.{IsNoScriptAt, RunEnds, RunsKnown, Spells}
+use Rattle.smc_run.specs.Inputs.{IsLawful, IsNoScriptAt, RunEnds, RunsKnown, Spells}
 
 -- ---- the rooms
 
@@ -120,6 +126,7 @@ part-may : (rooms : List Room) (part : PartTree) → MayOpen rooms → IsPlaced 
 part-may rooms (one numbered) opens placed fits known = go numbered.command placed fits known
   where
     go : (c : CommandTree) → IsPlacedAmong rooms c → IsFit the_tables c → is_known c ≡ true → CanRun (shape_asked rooms) c
+    go (load place file) placed fits known = table-of rooms place opens placed
     go (stat place) placed fits known = coll-of rooms place placed
     go (compact place) placed fits known = coll-of rooms place placed
     go (query place tree) placed fits known = (known, coll-of rooms place placed)
@@ -143,15 +150,37 @@ all-may rooms (part ∷ later) opens all fits none = go (is_known_part part) ref
 
 -- ---- after it
 
+-- a region that was closed has come through lawful steps
+lawful-closes : WhatHappenedIsLawful → (rooms : List Room) (quiet : Option Ended) (calls : List CallEnd) → Closes rooms quiet calls → IfSome quiet IsLawful
+lawful-closes law rooms None calls closes = tt
+lawful-closes law [] (Some quiet) calls closes = absurd closes
+lawful-closes law (room ∷ later) (Some quiet) calls closes = law quiet.shape quiet.opening quiet.words quiet.locals closes.reached
+
+-- so has that of a script, however its running ends
+pub lawful-run : WhatHappenedIsLawful → (status : RunEnd) (scene : Scene) (rooms : List Room) (parts : List PartTree) (quiet : Option Ended) (before after : Option (List ℕ))
+    → RunsAs (Closes rooms) scene status parts quiet before after → IfSome quiet IsLawful
+lawful-run law end.Done scene rooms parts quiet before after runs = lawful-closes law rooms quiet runs.0 runs.2
+lawful-run law end.WriteFault scene rooms parts quiet before after runs = lawful-closes law rooms quiet runs.0 runs.2
+lawful-run law end.NoMemory scene rooms parts quiet before after runs = subst (λ (q : Option Ended). IfSome q IsLawful) (sym runs.2) tt
+lawful-run law (end.NoFile name) scene rooms parts quiet before after runs = lawful-closes law rooms quiet runs.0 runs.2
+lawful-run law (end.BadTable name line) scene rooms parts quiet before after runs = lawful-closes law rooms quiet runs.0 runs.2
+lawful-run law (end.TableFull name line) scene rooms parts quiet before after runs = lawful-closes law rooms quiet runs.0 runs.2
+lawful-run law end.ReadFault scene rooms parts quiet before after runs = lawful-closes law rooms quiet runs.0 runs.2
+
 -- how a script ends that was read
-pub ends-known : (status : Status) (script : ScriptTree) (text : Option (List ℕ)) (quiet : Option Ended) (before after : Option (List ℕ)) → IfSome text (Spells script)
-    → RunsKnown status script quiet before after → RunEnds status text quiet before after
-ends-known Done script text quiet before after spells runs = (script, spells, runs)
-ends-known WriteFault script text quiet before after spells runs = (script, spells, runs)
-ends-known NoMemory script text quiet before after spells runs = inr (script, spells, runs)
-ends-known (BadScript line) script None quiet before after spells runs = (tt, runs.1)
-ends-known (BadScript line) script (Some text) quiet before after spells runs = (inr (script, spells, runs.0), runs.1)
-ends-known _ script text quiet before after spells runs = absurd runs
+pub ends-known : (status : Status) (script : ScriptTree) (text : Option (List ℕ)) (files : Told) (quiet : Option Ended) (before after : Option (List ℕ)) → IfSome text (Spells script)
+    → (status ≡ ReadFault → IsSome quiet) → RunsKnown status files script quiet before after → RunEnds status text files quiet before after
+ends-known Done script text files quiet before after spells opened runs = (script, spells, runs)
+ends-known WriteFault script text files quiet before after spells opened runs = (script, spells, runs)
+ends-known NoMemory script text files quiet before after spells opened runs = inr (script, spells, runs)
+ends-known (NoFile name) script text files quiet before after spells opened runs = (script, spells, runs)
+ends-known (BadTable (Some name) line) script text files quiet before after spells opened runs = (script, spells, runs)
+ends-known (TableFull name line) script text files quiet before after spells opened runs = (script, spells, runs)
+ends-known ReadFault script text files None before after spells opened runs = absurd (no-test (opened refl))
+ends-known ReadFault script text files (Some quiet) before after spells opened runs = (script, spells, runs)
+ends-known (BadScript line) script None files quiet before after spells opened runs = (tt, runs.1)
+ends-known (BadScript line) script (Some text) files quiet before after spells opened runs = (inr (script, spells, runs.0), runs.1)
+ends-known _ script text files quiet before after spells opened runs = absurd runs
 
 -- what was told of a text that was read to its end
 told-script : (script : ScriptTree) (text left : Option (List ℕ)) → OnTold text left (λ bytes _. TextGives the_tables [] bytes (Ok script)) → IfSome text (Spells script)
@@ -173,15 +202,15 @@ told-spells catalog folds script text left are none told =
     (subst (λ (names : List Word). OnTold text left (λ bytes _. TextGives catalog names bytes (Ok script))) none told))
 
 -- how it ends where no script was read
-refused-ends : (why : ScriptFault) (text left out : Option (List ℕ)) → Answers (Err why) (λ outcome. OnTold text left (λ bytes _. TextGives the_tables [] bytes outcome))
-    → RunEnds (refused_at why) text None out out
-refused-ends fault.ReadFault text left out gives = (refl, Keeps-refl out)
-refused-ends (Bad line kind) text left out gives = (told-refused line kind text left gives, (refl, Keeps-refl out))
-refused-ends fault.NoMemory text left out gives = inl (refl, Keeps-refl out)
+refused-ends : (why : ScriptFault) (files : Told) (text left out : Option (List ℕ)) → Answers (Err why) (λ outcome. OnTold text left (λ bytes _. TextGives the_tables [] bytes outcome))
+    → RunEnds (refused_at why) text files None out out
+refused-ends fault.ReadFault files text left out gives = Keeps-refl out
+refused-ends (Bad line kind) files text left out gives = (told-refused line kind text left gives, (refl, Keeps-refl out))
+refused-ends fault.NoMemory files text left out gives = inl (refl, Keeps-refl out)
 
-pub ends-refused : (catalog : Catalog) (folds : List Word) (why : ScriptFault) (text left out : Option (List ℕ)) → catalog ≡ the_tables → folds ≡ []
-    → Answers (Err why) (λ outcome. OnTold text left (λ bytes _. TextGives catalog folds bytes outcome)) → RunEnds (refused_at why) text None out out
-ends-refused catalog folds why text left out are none gives =
-    refused-ends why text left out
+pub ends-refused : (catalog : Catalog) (folds : List Word) (why : ScriptFault) (files : Told) (text left out : Option (List ℕ)) → catalog ≡ the_tables → folds ≡ []
+    → Answers (Err why) (λ outcome. OnTold text left (λ bytes _. TextGives catalog folds bytes outcome)) → RunEnds (refused_at why) text files None out out
+ends-refused catalog folds why files text left out are none gives =
+    refused-ends why files text left out
     (subst (λ (tables : Catalog). Answers (Err why) (λ outcome. OnTold text left (λ bytes _. TextGives tables [] bytes outcome))) are
     (subst (λ (names : List Word). Answers (Err why) (λ outcome. OnTold text left (λ bytes _. TextGives catalog names bytes outcome))) none gives))

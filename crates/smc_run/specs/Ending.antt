@@ -1,5 +1,5 @@
 -- How the program ends.
-use Rattle.std.specs.Prelude.{ℕ, None}
+use Rattle.std.specs.Prelude.{ℕ, Some, None}
 use Rattle.smc_tbl.specs.declared.fault.TblFault.{TblFault}
 use Rattle.smc_tbl.specs.declared.fault.TblFault.TheVariants as fault
 use Rattle.smc_script.specs.declared.fault.ScriptFault.{ScriptFault}
@@ -7,7 +7,7 @@ use Rattle.smc_script.specs.declared.fault.ScriptFault.TheVariants as script
 use Rattle.smc_desk.specs.declared.alone.RunEnd.{RunEnd}
 use Rattle.smc_desk.specs.declared.alone.RunEnd.TheVariants as run
 use Rattle.smc_run.specs.declared.status.Status.{Status}
-use Rattle.smc_run.specs.declared.status.Status.TheVariants.{Done, BadWords, BadScript, BadTable, ReadFault, WriteFault, NoMemory}
+use Rattle.smc_run.specs.declared.status.Status.TheVariants.{Done, BadWords, BadScript, BadTable, NoFile, ReadFault, WriteFault, TableFull, NoMemory}
 
 -- the number that the process ends with
 abbrev pub code_of : Status → ℕ
@@ -15,8 +15,10 @@ code_of Done = 0
 code_of BadWords = 1
 code_of (BadScript line) = 2
 code_of (BadTable file line) = 3
+code_of (NoFile name) = 4
 code_of ReadFault = 5
 code_of WriteFault = 6
+code_of (TableFull file line) = 7
 code_of NoMemory = 8
 
 -- the status after a fault of the input's table at this line
@@ -35,4 +37,8 @@ refused_at script.NoMemory = NoMemory
 abbrev pub status_of_run : RunEnd → Status
 status_of_run run.Done = Done
 status_of_run run.WriteFault = WriteFault
+status_of_run (run.NoFile name) = NoFile name
+status_of_run (run.BadTable name line) = BadTable (Some name) line
+status_of_run (run.TableFull name line) = TableFull name line
+status_of_run run.ReadFault = ReadFault
 status_of_run run.NoMemory = NoMemory

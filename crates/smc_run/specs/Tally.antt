@@ -11,7 +11,7 @@ use Rattle.smc_words.specs.declared.number.Number.{Number}
 use Rattle.smc_model.specs.declared.event.Event.{Event}
 use Rattle.smc_model.specs.declared.event.Event.TheVariants.{Add}
 use Rattle.smc_run.specs.declared.status.Status.{Status}
-use Rattle.smc_run.specs.declared.status.Status.TheVariants.{Done, BadWords, BadScript, BadTable, ReadFault, WriteFault, NoMemory}
+use Rattle.smc_run.specs.declared.status.Status.TheVariants.{Done, BadWords, BadScript, BadTable, NoFile, ReadFault, WriteFault, TableFull, NoMemory}
 use Rattle.smc_types.specs.declared.column.FieldType.{FieldType}
 use Rattle.smc_types.specs.declared.column.FieldType.TheVariants.{Count}
 use Rattle.smc_types.specs.declared.row.Value.{Value}
@@ -79,6 +79,8 @@ TallyEnds schema ReadFault text before after = Keeps before after
 TallyEnds schema NoMemory text before after = Keeps before after
 TallyEnds schema BadWords text before after = ⊥
 TallyEnds schema (BadScript line) text before after = ⊥
+TallyEnds schema (NoFile name) text before after = ⊥
+TallyEnds schema (TableFull file line) text before after = ⊥
 
 -- what a status says where the table was not read to its end
 abbrev pub Refuses : Schema → Status → Option (List ℕ) → Type 0
@@ -94,10 +96,13 @@ WritesText WriteFault before after text = AppendsFront before after text
 WritesText NoMemory before after text = Keeps before after
 WritesText _ before after text = ⊥
 
--- a status that comes after all of the input was read leaves nothing of it
+-- a status that comes after all of the input was read leaves nothing of it; a file of the shelf is read behind it
 abbrev pub ReadsToEnd : Status → Option (List ℕ) → Option (List ℕ) → Type 0
 ReadsToEnd Done before after = OnTold before after (λ _ left. left ≡ [])
 ReadsToEnd WriteFault before after = OnTold before after (λ _ left. left ≡ [])
+ReadsToEnd (NoFile name) before after = OnTold before after (λ _ left. left ≡ [])
+ReadsToEnd (BadTable (Some file) line) before after = OnTold before after (λ _ left. left ≡ [])
+ReadsToEnd (TableFull file line) before after = OnTold before after (λ _ left. left ≡ [])
 ReadsToEnd _ before after = ⊤
 
 -- the number of the row that stands at this place, from 0

@@ -1,8 +1,9 @@
-//! `smc`: the program. Its words say what it does; it reads standard input and writes standard output.
+//! `smc`: the program. Its words say what it does; it reads standard input and files of the current
+//! folder, and writes standard output.
 //!
-//! `top` does all of it over any source and sink: `tally` reads a table and tells how many rows it has, `play` plays a
+//! `top` does all of it over any source, shelf and sink: `tally` reads a table and tells how many rows it has, `play` plays a
 //! schedule on the machine, and `script` reads a script and runs it on a region of its own; `ended` and `status` say how the
-//! program ends. Nothing stands on it. Here only the real input and output are made; `specs/Tally.antt`, `Play.antt` and
+//! program ends. Nothing stands on it. Here only the real input, shelf and output are made; `specs/Tally.antt`, `Play.antt` and
 //! `Inputs.antt` define what is read and written.
 #![tactic(auto)]
 
@@ -13,7 +14,7 @@ pub mod status;
 pub mod tally;
 pub mod top;
 
-use smc_outside::{StdSink, StdSource};
+use smc_outside::{DirShelf, StdSink, StdSource};
 use status::Status;
 use std::process::ExitCode;
 use std::rt::Env;
@@ -36,9 +37,10 @@ fn words<R: Env + AllocGlobal>(rt: &R) -> Result<Vec<String>, Status> {
 
 fn main(rt: HostRuntime) -> ExitCode {
     let mut input = StdSource::new(rt.reader());
+    let mut shelf = DirShelf::new(rt.alloc(), &rt);
     let mut out = StdSink::new(io::writer(&rt));
     let status = match words(&rt) {
-        Ok(words) => top(rt.alloc(), &words, &mut input, &mut out).into_status(),
+        Ok(words) => top(rt.alloc(), &words, &mut input, &mut shelf, &mut out).into_status(),
         Err(status) => status,
     };
     if !matches!(status, Status::Done) {

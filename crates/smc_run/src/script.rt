@@ -1,5 +1,5 @@
 //! The script on the input is read, and run.
-ghost use Rattle.std.specs.Prelude.{◌≡◌, ◌≢◌, ◌≤◌, IfSome};
+ghost use Rattle.std.specs.Prelude.{◌≡◌, ◌≢◌, ◌≤◌, IfNone, IfSome, IsSome};
 ghost use Rattle.smc_outside.specs.Causes.{Rose};
 ghost use Rattle.smc_types.specs.Tables.{the_tables};
 ghost use Rattle.smc_script.specs.Sound.{IsSound};
@@ -12,7 +12,7 @@ use crate::ended::Ended;
 use crate::status::Status;
 use smc_desk::{Ran, RunEnd, run_alone, unknown_line};
 use smc_history::laws::what_happened_is_lawful;
-use smc_outside::{Sink, Source};
+use smc_outside::{Shelf, Sink, Source};
 use smc_script::{FoldNames, Script, ScriptFault, read_script};
 use smc_types::{Catalog, tpch};
 use std::alloc::Global;
@@ -35,25 +35,40 @@ fn status_of_run(end: RunEnd) -> Status
     match end {
         RunEnd::Done => Status::Done,
         RunEnd::WriteFault => Status::WriteFault,
+        RunEnd::NoFile { name } => Status::NoFile { name },
+        RunEnd::BadTable { name, line } => Status::BadTable {
+            file: Some(name),
+            line,
+        },
+        RunEnd::TableFull { name, line } => Status::TableFull { file: name, line },
+        RunEnd::ReadFault => Status::ReadFault,
         RunEnd::NoMemory => Status::NoMemory,
     }
 }
 
 // Runs a script, if all its commands are run; else refuses it at the first that is not.
-fn run_known<O: Sink>(alloc: Global, script: &Script, catalog: &Catalog, out: &mut O) -> Ended
+fn run_known<F: Shelf, O: Sink>(
+    alloc: Global,
+    script: &Script,
+    catalog: &Catalog,
+    shelf: &mut F,
+    out: &mut O,
+) -> Ended
     requires tables { catalog.now ≡ the_tables }
     requires sound { IsSound the_tables script.now }
-    ensures ends { RunsKnown result.status (script_tree script.now) result.quiet (O.held out.old) (O.held out.new) }
+    ensures ends { RunsKnown result.status (F.files shelf.old) (script_tree script.now) result.quiet (O.held out.old) (O.held out.new) }
     ensures lawful { IfSome result.quiet IsLawful }
     ensures cause { result.status ≡ Status.WriteFault → Rose (O.faults out.old) (O.faults out.new) }
     ensures later { O.faults out.old ≤ O.faults out.new }
+    ensures read_cause { result.status ≡ Status.ReadFault → Rose (F.faults shelf.old) (F.faults shelf.new) }
+    ensures opened { result.status ≡ Status.ReadFault → IsSome result.quiet }
 {
     // Up to its closing a region has come through lawful steps.
     what_happened_is_lawful();
     match unknown_line(script.parts.as_slice()) {
         Some(line) => Ended::at(Status::BadScript { line }),
         None => {
-            let Ran { end, quiet } = run_alone(alloc, script, catalog, out);
+            let Ran { end, quiet } = run_alone(alloc, script, catalog, shelf, out);
             Ended {
                 status: status_of_run(end),
                 quiet,
@@ -63,12 +78,18 @@ fn run_known<O: Sink>(alloc: Global, script: &Script, catalog: &Catalog, out: &m
 }
 
 /// Runs the script of the input. Nothing is written before the input was read to its end.
-pub fn run<I: Source, O: Sink>(alloc: Global, input: &mut I, out: &mut O) -> Ended
-    ensures ends { RunEnds result.status (I.left input.old) result.quiet (O.held out.old) (O.held out.new) }
+pub fn run<I: Source, F: Shelf, O: Sink>(
+    alloc: Global,
+    input: &mut I,
+    shelf: &mut F,
+    out: &mut O,
+) -> Ended
+    ensures ends { RunEnds result.status (I.left input.old) (F.files shelf.old) result.quiet (O.held out.old) (O.held out.new) }
     ensures lawful { IfSome result.quiet IsLawful }
     ensures asked { result.status ≢ Status.BadWords }
     ensures read { ReadsToEnd result.status (I.left input.old) (I.left input.new) }
-    ensures input_cause { result.status ≡ Status.ReadFault → Rose (I.faults input.old) (I.faults input.new) }
+    ensures input_cause { result.status ≡ Status.ReadFault → IfNone result.quiet (Rose (I.faults input.old) (I.faults input.new)) }
+    ensures shelf_cause { result.status ≡ Status.ReadFault → IfSome result.quiet (λ _. Rose (F.faults shelf.old) (F.faults shelf.new)) }
     ensures out_cause { result.status ≡ Status.WriteFault → Rose (O.faults out.old) (O.faults out.new) }
 {
     let Ok(catalog) = tpch(alloc) else {
@@ -76,7 +97,7 @@ pub fn run<I: Source, O: Sink>(alloc: Global, input: &mut I, out: &mut O) -> End
     };
     let folds = FoldNames::of(Vec::new(alloc));
     match read_script(alloc, input, &catalog, folds) {
-        Ok(script) => run_known(alloc, &script, &catalog, out),
+        Ok(script) => run_known(alloc, &script, &catalog, shelf, out),
         Err(fault) => Ended::at(refused_at(fault)),
     }
 }

@@ -1,47 +1,9 @@
 ghost use Rattle.std.specs.Prelude.{◌≡◌};
 ghost use Rattle.smc_run.specs.declared.status.Status.TheVariants as status;
 
+use smc_script::FileName;
 use smc_words::NoMemory;
 use std::fmt;
-use std::marker::Model;
-
-/// The name of a file, relative to the current folder. Contracts see its bytes.
-#[derive(Debug, Drop)]
-pub struct FileName {
-    text: String,
-}
-
-impl Model for FileName {
-    ghost use Rattle.std.specs.Prelude.{List, ℕ, string_bytes};
-
-    ghost Value = { List ℕ };
-
-    ghost view = { λ name. string_bytes name.text };
-}
-
-impl FileName {
-    ghost use Rattle.std.specs.Prelude.{string_bytes};
-
-    /// A name from its text, which takes no memory.
-    pub fn of(text: String) -> Self
-        ensures { result ≡ string_bytes text }
-    {
-        FileName { text }
-    }
-
-    /// Its text.
-    pub fn as_str(&self) -> &str
-        ensures { result.now ≡ self.now }
-    {
-        self.text.as_str()
-    }
-}
-
-impl fmt::Display for FileName {
-    fn fmt<W: fmt::Write>(&self, f: &mut fmt::Formatter<W>) -> fmt::Result {
-        write!(f, "{}", self.as_str())
-    }
-}
 
 /// How the program ended.
 #[derive(Debug, Drop)]
@@ -54,10 +16,14 @@ pub enum Status {
     BadScript { line: u64 },
     /// The first line of a table that is no row of it, from 1; `None` is the table on standard input.
     BadTable { file: Option<FileName>, line: u64 },
-    /// The input failed.
+    /// No file has the name that a script was to load.
+    NoFile { name: FileName },
+    /// The input failed, or the shelf.
     ReadFault,
     /// The output failed, and has a front of the text.
     WriteFault,
+    /// The table had no room for the row of this line of the file, from 1.
+    TableFull { file: FileName, line: u64 },
     /// Memory was refused.
     NoMemory,
 }
@@ -75,8 +41,10 @@ impl Status {
             Status::BadWords => 1,
             Status::BadScript { .. } => 2,
             Status::BadTable { .. } => 3,
+            Status::NoFile { .. } => 4,
             Status::ReadFault => 5,
             Status::WriteFault => 6,
+            Status::TableFull { .. } => 7,
             Status::NoMemory => 8,
         }
     }
@@ -94,9 +62,13 @@ impl fmt::Display for Status {
             Status::BadTable {
                 file: Some(file),
                 line,
-            } => write!(f, "bad table {file}, line {line}"),
+            } => write!(f, "bad table {}, line {line}", file.as_str()),
+            Status::NoFile { name } => write!(f, "no file {}", name.as_str()),
             Status::ReadFault => write!(f, "read fault"),
             Status::WriteFault => write!(f, "write fault"),
+            Status::TableFull { file, line } => {
+                write!(f, "table full {}, line {line}", file.as_str())
+            }
             Status::NoMemory => write!(f, "no memory"),
         }
     }
@@ -117,7 +89,13 @@ mod tests {
 
     #[test]
     fn each_status_has_its_line(rt: HostRuntime) -> Result<(), Fail> {
-        let file = FileName::of("region.tbl".to_string(rt.alloc())?);
+        let (Ok(file), Ok(name), Ok(full)) = (
+            FileName::of(rt.alloc(), "region.tbl"),
+            FileName::of(rt.alloc(), "no.tbl"),
+            FileName::of(rt.alloc(), "full.tbl"),
+        ) else {
+            return Ok(());
+        };
         let cases = [
             (Status::BadWords, "smc: 1 bad words"),
             (Status::BadScript { line: 12 }, "smc: 2 bad script, line 12"),
@@ -135,8 +113,16 @@ mod tests {
                 },
                 "smc: 3 bad table region.tbl, line 12",
             ),
+            (Status::NoFile { name }, "smc: 4 no file no.tbl"),
             (Status::ReadFault, "smc: 5 read fault"),
             (Status::WriteFault, "smc: 6 write fault"),
+            (
+                Status::TableFull {
+                    file: full,
+                    line: 65,
+                },
+                "smc: 7 table full full.tbl, line 65",
+            ),
             (Status::NoMemory, "smc: 8 no memory"),
         ];
         for (status, line) in cases {

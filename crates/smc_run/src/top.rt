@@ -12,7 +12,7 @@ use crate::play::play;
 use crate::script;
 use crate::status::Status;
 use crate::tally::tally;
-use smc_outside::{Sink, Source};
+use smc_outside::{Shelf, Sink, Source};
 use smc_types::{CUSTOMER, LINEITEM, NATION, ORDERS, PART, PARTSUPP, REGION, SUPPLIER};
 use std::alloc::Global;
 
@@ -74,23 +74,31 @@ fn asks_run(words: &[String]) -> bool
 /// All that the program does: what its words ask for, or `BadWords` before anything is read.
 ///
 /// Where a script with rooms was run, its region is handed back, closed with its pass, unless memory was refused.
-pub fn top<I: Source, O: Sink>(alloc: Global, words: &[String], input: &mut I, out: &mut O) -> Ended
+pub fn top<I: Source, F: Shelf, O: Sink>(
+    alloc: Global,
+    words: &[String],
+    input: &mut I,
+    shelf: &mut F,
+    out: &mut O,
+) -> Ended
     ensures words { (result.status ≡ Status.BadWords) ↔ ((tallied words.now ≡ None) × (plays words.now ≡ false) × (runs words.now ≡ false)) }
     ensures untouched { result.status ≡ Status.BadWords → (input.new ≡ input.old) × (out.new ≡ out.old) }
     ensures ends { IfSome (tallied words.now) (λ schema. TallyEnds schema result.status (I.left input.old) (O.held out.old) (O.held out.new)) }
     ensures played { plays words.now ≡ true → PlaysAs result.status (I.left input.old) (O.held out.old) (O.held out.new) }
-    ensures ran { runs words.now ≡ true → RunEnds result.status (I.left input.old) result.quiet (O.held out.old) (O.held out.new) }
+    ensures ran { runs words.now ≡ true → RunEnds result.status (I.left input.old) (F.files shelf.old) result.quiet (O.held out.old) (O.held out.new) }
     ensures lawful { IfSome result.quiet IsLawful }
     ensures quiet { runs words.now ≡ false → result.quiet ≡ None }
+    ensures unread { runs words.now ≡ false → shelf.new ≡ shelf.old }
     ensures read { ReadsToEnd result.status (I.left input.old) (I.left input.new) }
-    ensures input_cause { result.status ≡ Status.ReadFault → Rose (I.faults input.old) (I.faults input.new) }
+    ensures input_cause { result.status ≡ Status.ReadFault → IfNone result.quiet (Rose (I.faults input.old) (I.faults input.new)) }
+    ensures shelf_cause { result.status ≡ Status.ReadFault → IfSome result.quiet (λ _. Rose (F.faults shelf.old) (F.faults shelf.new)) }
     ensures out_cause { result.status ≡ Status.WriteFault → Rose (O.faults out.old) (O.faults out.new) }
 {
     if asks_play(words) {
         return Ended::at(play(alloc, input, out));
     }
     if asks_run(words) {
-        return script::run(alloc, input, out);
+        return script::run(alloc, input, shelf, out);
     }
     match table_asked(words) {
         Some(table) => Ended::at(tally(alloc, table, input, out)),
@@ -101,8 +109,14 @@ pub fn top<I: Source, O: Sink>(alloc: Global, words: &[String], input: &mut I, o
 #[cfg(test)]
 mod tests {
     use super::*;
-    use smc_outside::{MemSink, MemSource};
+    use smc_outside::{MemShelf, MemSink, MemSource};
     use std::test::Fail;
+
+    // The files of the shelf.
+    const FILES: [(&str, &str); 2] = [
+        ("two.tbl", "0|AFRICA|a|\n2|ASIA|b|\n"),
+        ("bad.tbl", "0|AFRICA|a|\nx|ASIA|b|\n"),
+    ];
 
     // What `top` says at these words over this text, where these reads and writes fail and the output has so much room:
     // the line of its status, and what was written.
@@ -120,7 +134,12 @@ mod tests {
         }
         let mut input = MemSource::new(text.as_bytes().to_vec(alloc)?, 9, reads.to_vec(alloc)?);
         let mut out = MemSink::new(alloc, space, 5, writes.to_vec(alloc)?)?;
-        let status = top(alloc, &list, &mut input, &mut out).into_status();
+        let mut files = Vec::new(alloc);
+        for (name, bytes) in FILES {
+            files.push((name.to_string(alloc)?, bytes.as_bytes().to_vec(alloc)?))?;
+        }
+        let mut shelf = MemShelf::new(files, Vec::new(alloc));
+        let status = top(alloc, &list, &mut input, &mut shelf, &mut out).into_status();
         Ok((format!(in alloc; "{status}")?, out.bytes().to_vec(alloc)?))
     }
 
@@ -222,6 +241,21 @@ mod tests {
                 "room region 64\nadd region asia 2|ASIA||\nremove asia\nget asia\nremove asia\ncompact region\n",
                 "smc: 0 done",
                 "added asia\nremoved\nnull\nnull\npacked region objects 0 blocks 0\n",
+            ),
+            (
+                "room region 64\nload region two.tbl\nstat region\n",
+                "smc: 0 done",
+                "loaded region 2\nobjects 2\n",
+            ),
+            (
+                "room region 64\nstat region\nload region no.tbl\nstat region\n",
+                "smc: 4 no file no.tbl",
+                "objects 0\n",
+            ),
+            (
+                "room region 64\nload region bad.tbl\nstat region\n",
+                "smc: 3 bad table bad.tbl, line 2",
+                "",
             ),
             (
                 "room region 64\ncompact nation\n",

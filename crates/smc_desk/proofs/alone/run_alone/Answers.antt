@@ -5,7 +5,7 @@ use Rattle.smc_script.specs.declared.script.Room.{Room}
 use Rattle.smc_script.specs.Trees.{part_tree}
 use Rattle.smc_desk.specs.declared.alone.RunEnd.{RunEnd}
 use Rattle.smc_desk.specs.declared.alone.RunEnd.TheVariants.{Done}
-use Rattle.smc_desk.specs.Runs.{Closes, RunsAs}
+use Rattle.smc_desk.specs.Runs.{Closes, RunsAs, scene_of, shape_asked}
 use Rattle.smc_desk.proofs.RunLaws.{nothing-to-run}
 use Rattle.smc_desk.proofs.alone.run_alone.Goals as goal
 
@@ -15,6 +15,7 @@ returns-then-is_empty-clause-ends g c =
     let rooms : List Room = c.args.script.now.rooms in
     let parts = map part_tree c.args.script.now.parts in
     let old = held c.args.out.now in
+    let scene = scene_of (g.F.Shelf.files c.args.shelf.now) (shape_asked rooms) in
     let none : length rooms ≡ 0 = grind (arith, nat_tests, c.as_slice-rooms.ensures, c.is_empty.ensures, c.if-is_empty.true) in
-    subst (λ (e : RunEnd). RunsAs (Closes rooms) e parts c.without.result.quiet old old) (sym c.without.ensures.end)
-    (subst (λ (q : Option Ended). RunsAs (Closes rooms) Done parts q old old) (sym c.without.ensures.quiet) (nothing-to-run rooms parts old none c.requires.may))
+    subst (λ (e : RunEnd). RunsAs (Closes rooms) scene e parts c.without.result.quiet old old) (sym c.without.ensures.end)
+    (subst (λ (q : Option Ended). RunsAs (Closes rooms) scene Done parts q old old) (sym c.without.ensures.quiet) (nothing-to-run scene rooms parts old none c.requires.may))

@@ -4,9 +4,10 @@ use Rattle.std.specs.Io.KnownBytes.{Appends}
 use Rattle.smc_does.specs.Does.{DoesSome}
 use Rattle.smc_script.specs.declared.script.Part.{Part}
 use Rattle.smc_script.specs.Trees.{PartTree, part_tree}
+use Rattle.smc_load.specs.Files.{Told}
 use Rattle.smc_desk.specs.declared.alone.RunEnd.{RunEnd}
 use Rattle.smc_replies.specs.Scripts.{CanRunPart}
-use Rattle.smc_desk.specs.Runs.{PartEnds, Replies, seen}
+use Rattle.smc_desk.specs.Runs.{PartEnds, Replies, scene_of, seen}
 use Rattle.smc_desk.proofs.RunLaws.{ends-within, may-next, next-part, ran-more}
 use Rattle.smc_desk.proofs.alone.run_parts.Goals as goal
 
@@ -22,40 +23,63 @@ run_part-next-requires-clause-may g c =
 pub returns-in_default : goal.returns-in_default
 returns-in_default g c =
     let held = g.O.Sink.held in
+    let files = g.F.Shelf.files in
+    let shape = c.args.region.now.about.shape in
     let i = c.loop-part.part-index in
     let item = c.part-item.result in
     let parts = c.args.parts.now in
     let ran = c.loop-part.invariant.ran in
     let before = ran.1.same in
     let faults = c.loop-part.invariant.faults in
+    let so_far = c.loop-part.invariant.later in
+    let kept = c.loop-part.invariant.kept in
     let ensures = c.run_part-next.ensures in
     let now = ensures.home.0 in
     let later = ensures.later in
+    let shelf_later = ensures.shelf_later in
+    let status = c.run_part-next.result.1 in
+    let ends = subst (λ (k : Told). PartEnds (scene_of k shape) status (part_tree item) (seen c.loop-part.books) (seen c.run_part-next.new.books) c.loop-part.pass c.run_part-next.result.0
+    (held c.loop-part.out) (held c.run_part-next.new.out)) kept ensures.ends in
     record {
       home = ((now.0 ∙ before.0, now.1 ∙ before.1, now.2 ∙ before.2), ensures.home.1);
-      ends = ends-within (seen c.args.books.now) c.run_part-next.result.1 (map part_tree parts) i (part_tree item) (seen c.loop-part.books) (seen c.run_part-next.new.books) c.args.pass c.loop-part.pass c.run_part-next.result.0
-          (held c.args.out.now) (held c.loop-part.out) (held c.run_part-next.new.out) (step parts i item c.loop-part-test.true c.part-item.is) c.in_default.not-Done ran ensures.ends;
+      ends = ends-within (scene_of (files c.args.shelf.now) shape) (seen c.args.books.now) status (map part_tree parts) i (part_tree item) (seen c.loop-part.books) (seen c.run_part-next.new.books)
+          c.args.pass c.loop-part.pass c.run_part-next.result.0 (held c.args.out.now) (held c.loop-part.out) (held c.run_part-next.new.out) (step parts i item c.loop-part-test.true c.part-item.is)
+          c.in_default.not-Done ran ends;
       cause = λ is. let rose = ensures.cause is in omega (arith, rose, faults);
       later = omega (arith, faults, later);
+      read_cause = λ is. let rose = ensures.read_cause is in omega (arith, rose, so_far);
+      kept = ensures.kept ∙ kept;
+      shelf_later = omega (arith, so_far, shelf_later);
     }
 
 pub loop-part-preserved : goal.loop-part-preserved
 loop-part-preserved g c =
     let held = g.O.Sink.held in
+    let shape = c.args.region.now.about.shape in
+    let files = g.F.Shelf.files c.args.shelf.now in
+    let scene = scene_of files shape in
     let i = c.loop-part.part-index in
     let item = c.part-item.result in
     let parts = c.args.parts.now in
     let all : List PartTree = map part_tree parts in
     let next = c.run_part-next.result.0 in
     let faults = c.loop-part.invariant.faults in
+    let so_far = c.loop-part.invariant.later in
+    let kept = c.loop-part.invariant.kept in
     let later = c.run_part-next.ensures.later in
+    let shelf_later = c.run_part-next.ensures.shelf_later in
     let known = seen c.loop-part.books in
     let now = seen c.run_part-next.new.books in
-    let ends = subst (λ (e : RunEnd). PartEnds e (part_tree item) known now c.loop-part.pass next (held c.loop-part.out) (held c.run_part-next.new.out)) c.in-Done.is c.run_part-next.ensures.ends in
+    let told = subst (λ (k : Told). PartEnds (scene_of k shape) c.run_part-next.result.1 (part_tree item) known now c.loop-part.pass next (held c.loop-part.out) (held c.run_part-next.new.out))
+    kept c.run_part-next.ensures.ends in
+    let ends = subst (λ (e : RunEnd). PartEnds scene e (part_tree item) known now c.loop-part.pass next (held c.loop-part.out) (held c.run_part-next.new.out)) c.in-Done.is told in
     record {
-      ran = subst (λ (ps : List PartTree). DoesSome c.args.pass next (λ calls. Replies Appends ps (seen c.args.books.now) now calls (held c.args.out.now) (held c.run_part-next.new.out)))
+      ran = subst (λ (ps : List PartTree). DoesSome c.args.pass next (λ calls. Replies scene Appends ps (seen c.args.books.now) now calls (held c.args.out.now) (held c.run_part-next.new.out)))
           (sym (step parts i item c.loop-part-test.true c.part-item.is))
-          (ran-more (seen c.args.books.now) (take i all) (part_tree item) known now c.args.pass c.loop-part.pass next (held c.args.out.now) (held c.loop-part.out) (held c.run_part-next.new.out) c.loop-part.invariant.ran ends);
+          (ran-more scene (seen c.args.books.now) (take i all) (part_tree item) known now c.args.pass c.loop-part.pass next (held c.args.out.now) (held c.loop-part.out) (held c.run_part-next.new.out)
+          c.loop-part.invariant.ran ends);
       free = c.run_part-next.ensures.home.1;
       faults = omega (arith, faults, later);
+      kept = c.run_part-next.ensures.kept ∙ kept;
+      later = omega (arith, so_far, shelf_later);
     }

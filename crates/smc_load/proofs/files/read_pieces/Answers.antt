@@ -1,4 +1,4 @@
-use Rattle.std.proofs.Common.{◌≡◌, ℕ, ◌<◌, List, ◌++◌, Some, length, rules, sym, subst}
+use Rattle.std.proofs.Common.{◌≡◌, ℕ, ◌<◌, List, ◌++◌, Some, length, rules, sym, subst, ap, ◌∙◌}
 use Rattle.smc_load.specs.Files.{IsFile}
 use Rattle.smc_load.proofs.FileLaws.{HasFront, front-end, front-missing, front-more, front-none}
 use Rattle.smc_load.proofs.files.read_pieces.Goals as goal
@@ -35,7 +35,7 @@ loop-bytes-preserved g c =
     let buf = c.fetch.new.buf in
     let size : c.len.result ≡ length bytes = search rules in
     let here = rw c.in-Ok-Some.field-0-is at c.in-Ok-Some.ensures.bytes in
-    let grown = subst (λ (k : List ℕ). c.extend_from_slice.new.self.items ≡ bytes ++ k) c.split_at.ensures.front c.in_ok-extend_from_slice-in-Ok-Some.ensures.items in
+    let grown = c.in_ok-extend_from_slice-in-Ok-Some.ensures.items ∙ ap (λ (k : List ℕ). bytes ++ k) c.split_at.ensures.front in
     record {
       front = subst (λ (k : List ℕ). HasFront told name k) (sym grown)
           (front-more told (files c.loop-bytes.shelf) name bytes c.len.result c.in-Ok-Some.count buf c.loop-bytes.invariant.kept size c.loop-bytes.invariant.front here);

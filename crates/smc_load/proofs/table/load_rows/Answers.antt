@@ -5,7 +5,7 @@ use Rattle.smc_outside.specs.Told.{OnTold}
 use Rattle.smc_tbl.specs.Reading.{untaken}
 use Rattle.smc_load.specs.Loading.{RowEnds}
 use Rattle.smc_load.specs.declared.rows.RowFault.{RowFault}
-use Rattle.smc_load.proofs.TextLaws.{HasTaken, all-loaded, does-more, does-none, row-ends, taken-more, taken-none, text-ends}
+use Rattle.smc_load.proofs.TextLaws.{HasTaken, does-more, does-none, row-ends, taken-more, taken-none, text-ends}
 use Rattle.smc_load.proofs.table.load_rows.Goals as goal
 
 pub loop-pass-init : goal.loop-pass-init
@@ -84,17 +84,3 @@ returns-in-Err-clause-ends g c =
     rw (c.text_fault.ensures, c.line-in-Err.ensures.value, counted)
     (text-ends schema c.args.table c.args.coll (left c.args.source.now) (untaken c.loop-pass.lines (left c.loop-pass.source)) (untaken c.next_words.new.lines (left c.next_words.new.source)) rows
     c.next_words.new.into.items c.args.pass c.loop-pass.pass c.args.keys.now c.loop-pass.keys taken loaded c.in-Err.fault c.loop-pass.lines.number reads limit count)
-
-pub returns-in-Ok-false-clause-ends : goal.returns-in-Ok-false-clause-ends
-returns-in-Ok-false-clause-ends g c =
-    let schema = c.args.schema.now in
-    let left = g.S.Source.left in
-    let (rows, count, taken, loaded) = c.loop-pass.invariant.rows in
-    let good = c.loop-pass.invariant.good in
-    let next = c.in-Ok-false.ensures in
-    let reads = rw (c.in-Ok-false.field-0-test, good) at next.reads in
-    let counted = rw (c.in-Ok-false.field-0-test, good) at next.counted in
-    let line = c.line-in-Ok-false.ensures.value in
-    let few = c.loop-pass.invariant.limit in
-    all-loaded schema c.args.table c.args.coll (left c.args.source.now) (untaken c.loop-pass.lines (left c.loop-pass.source)) (untaken c.next_words.new.lines (left c.next_words.new.source)) rows
-    c.next_words.new.into.items c.args.pass c.loop-pass.pass c.args.keys.now c.loop-pass.keys taken loaded c.line-in-Ok-false.result reads (omega (arith, line, counted, count)) (omega (arith, line, counted, few))

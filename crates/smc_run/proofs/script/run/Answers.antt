@@ -15,15 +15,16 @@ returns-in-Ok-read_script-clause-ends g c =
     let script = script_tree c.in-Ok-read_script.script in
     let old = left c.args.input.now in
     let spells = told-spells c.in-Ok.catalog c.of-folds.result script old (left c.read_script.new.source) c.in-Ok.ensures (c.of-folds.ensures ∙ c.new.ensures.items) c.in-Ok-read_script.ensures.gives in
-    ends-known ran.status script old ran.quiet (held c.args.out.now) (held c.run_known.new.out) spells c.run_known.ensures.ends
+    ends-known ran.status script old (g.F.Shelf.files c.args.shelf.now) ran.quiet (held c.args.out.now) (held c.run_known.new.out) spells c.run_known.ensures.opened c.run_known.ensures.ends
 
 pub returns-clause-ends : goal.returns-clause-ends
 returns-clause-ends g c =
     let left = g.I.Source.left in
     let old = left c.args.input.now in
     let out = g.O.Sink.held c.args.out.now in
+    let files = g.F.Shelf.files c.args.shelf.now in
     let why = c.in-Err.fault in
     let none = c.at-in-Err in
-    let ends = ends-refused c.in-Ok.catalog c.of-folds.result why old (left c.read_script.new.source) out c.in-Ok.ensures (c.of-folds.ensures ∙ c.new.ensures.items) c.in-Err.ensures.gives in
-    subst (λ (s : Status). RunEnds s old none.result.quiet out out) (sym (none.ensures.status ∙ c.refused_at.ensures))
-    (subst (λ (q : Option Ended). RunEnds (refused_at why) old q out out) (sym none.ensures.quiet) ends)
+    let ends = ends-refused c.in-Ok.catalog c.of-folds.result why files old (left c.read_script.new.source) out c.in-Ok.ensures (c.of-folds.ensures ∙ c.new.ensures.items) c.in-Err.ensures.gives in
+    subst (λ (s : Status). RunEnds s old files none.result.quiet out out) (sym (none.ensures.status ∙ c.refused_at.ensures))
+    (subst (λ (q : Option Ended). RunEnds (refused_at why) old files q out out) (sym none.ensures.quiet) ends)

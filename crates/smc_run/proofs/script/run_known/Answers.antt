@@ -2,7 +2,8 @@ use Rattle.std.proofs.Common.{◌≡◌, List, map, None, sym, subst, ◌∙◌}
 use Rattle.smc_script.specs.declared.script.Part.{Part}
 use Rattle.smc_script.specs.Trees.{part_tree}
 use Rattle.smc_replies.specs.Scripts.{unknown_line}
-use Rattle.smc_run.proofs.ScriptLaws.{all-may, opens-may}
+use Rattle.smc_desk.specs.Runs.{scene_of, shape_asked}
+use Rattle.smc_run.proofs.ScriptLaws.{all-may, lawful-run, opens-may}
 use Rattle.smc_run.proofs.script.run_known.Goals as goal
 
 pub run_alone-end-requires-clause-may : goal.run_alone-end-requires-clause-may
@@ -11,3 +12,11 @@ run_alone-end-requires-clause-may g c =
     let none = subst (λ (parts : List Part). unknown_line (map part_tree parts) ≡ None) c.as_slice.ensures (sym c.unknown_line.ensures ∙ c.in-None.is) in
     let sound = c.requires.sound in
     all-may script.rooms (map part_tree script.parts) (opens-may script.rooms sound.opens) sound.fits sound.values none
+
+pub returns-in-None-clause-lawful : goal.returns-in-None-clause-lawful
+returns-in-None-clause-lawful g c =
+    let script = c.args.script.now in
+    let held = g.O.Sink.held in
+    let scene = scene_of (g.F.Shelf.files c.args.shelf.now) (shape_asked script.rooms) in
+    let ran = c.run_alone-end in
+    lawful-run c.what_happened_is_lawful.ensures ran.result.end scene script.rooms (map part_tree script.parts) ran.result.quiet (held c.args.out.now) (held ran.new.out) ran.ensures.ends
