@@ -1,1 +1,4 @@
 pub mod BoundLaws
+mod DigitLaws
+mod DateLaws
+mod PieceLaws

@@ -1,3 +1,7 @@
 pub mod Values
 pub mod Kinds
 pub mod Decimals
+pub mod Cells
+pub mod Dates
+pub mod Printed
+pub mod Worked

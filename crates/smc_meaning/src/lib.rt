@@ -4,11 +4,17 @@
 //! leaves of a plan, one leaf behind the other. Below stand `smc_plan` with plans and `smc_types` with columns; above, the
 //! crates that answer queries fast, whose answers are those of the definitions here.
 //!
+//! `cell` has the columns of an answer and `answer` its rows; their text is defined in `specs/Printed.antt`.
+//!
 //! The value of an expression is defined in `specs/Values.antt`, and what an expression is in `Kinds.antt`.
 #![tactic(auto)]
 
+mod answer;
+mod cell;
 mod decimal;
 pub mod laws;
 mod leaf;
 
+pub use answer::{Answer, AnswerRow};
+pub use cell::Cell;
 pub use decimal::Decimal;

@@ -1,0 +1,101 @@
+//! A column of an answer, and its text.
+ghost use Rattle.std.specs.Prelude.{◌≡◌, ◌++◌, ◌≤◌, ◌<◌, ◌^◌, OnOk, decimal};
+ghost use Rattle.smc_types.specs.Days.{IsDay};
+ghost use Rattle.smc_plan.specs.declared.kind.TheConstants.{MAX_SCALE};
+ghost use Rattle.smc_meaning.specs.Cells.{CanPrint, column_seen};
+ghost use Rattle.smc_meaning.specs.Dates.{day_text};
+ghost use Rattle.smc_meaning.specs.Printed.{column_text, decimals_text, last_digits, number_text};
+
+use crate::Decimal;
+use itoa::Buffer;
+use smc_types::{RowText, day_text};
+use smc_words::NoMemory;
+
+/// The digit of 0; the others follow it.
+const ZERO_DIGIT: u8 = b'0';
+
+/// What stands between a number and its decimals.
+const POINT: u8 = b'.';
+
+/// What stands before a number below 0.
+const MINUS: u8 = b'-';
+
+/// The text of a column that has no value.
+const NONE: &[u8] = b"none";
+
+/// The value of a column of an answer.
+#[derive(Debug, Drop)]
+pub enum Cell {
+    Number(Decimal),
+    /// Days from 1970-01-01.
+    Day(i32),
+    Text(RowText),
+}
+
+/// Puts the text of a column behind what is there.
+pub(crate) fn print_column(text: &mut Vec<u8>, column: &Option<Cell>) -> Result<(), NoMemory>
+    requires { CanPrint (column_seen column.now) }
+    ensures { OnOk result (text.new.items ≡ text.old.items ++ column_text (column_seen column.now)) }
+{
+    match column {
+        Some(Cell::Number(number)) => print_number(text, *number),
+        Some(Cell::Day(day)) => print_day(text, *day),
+        Some(Cell::Text(bytes)) => Ok(text.extend_from_slice(bytes.as_slice())?),
+        None => Ok(text.extend_from_slice(NONE)?),
+    }
+}
+
+// Puts the text of a day behind what is there.
+fn print_day(text: &mut Vec<u8>, day: i32) -> Result<(), NoMemory>
+    requires { IsDay day }
+    ensures { OnOk result (text.new.items ≡ text.old.items ++ day_text day) }
+{
+    match day_text(day) {
+        Some(bytes) => Ok(text.extend_from_slice(&bytes)?),
+        None => unreachable!(),
+    }
+}
+
+// Puts a number with its decimals behind what is there.
+fn print_number(text: &mut Vec<u8>, number: Decimal) -> Result<(), NoMemory>
+    requires { number.scale ≤ MAX_SCALE }
+    ensures { OnOk result (text.new.items ≡ text.old.items ++ number_text number.units number.scale) }
+{
+    if number.units < 0 {
+        text.push(MINUS)?;
+    }
+    let one = u128::from(10u64.pow(number.scale));
+    let size = number.units.unsigned_abs();
+    print_whole(text, size / one)?;
+    print_decimals(text, number.scale, (size % one) as u64)
+}
+
+// Puts a number without decimals behind what is there.
+pub(crate) fn print_whole(text: &mut Vec<u8>, number: u128) -> Result<(), NoMemory>
+    ensures { OnOk result (text.new.items ≡ text.old.items ++ decimal number) }
+{
+    let mut buffer = Buffer::new();
+    text.extend_from_slice(buffer.format(number).as_bytes())?;
+    Ok(())
+}
+
+// Puts the point and so many decimals behind what is there, and nothing where there are none.
+fn print_decimals(text: &mut Vec<u8>, scale: u32, units: u64) -> Result<(), NoMemory>
+    ensures { OnOk result (text.new.items ≡ text.old.items ++ decimals_text scale units) }
+{
+    if scale > 0 {
+        text.push(POINT)?;
+    }
+    print_digits(text, scale, units)
+}
+
+// Puts so many of the last digits of a number behind what is there.
+fn print_digits(text: &mut Vec<u8>, count: u32, number: u64) -> Result<(), NoMemory>
+    ensures { OnOk result (text.new.items ≡ text.old.items ++ last_digits count number) }
+{
+    if count > 0 {
+        print_digits(text, count - 1, number / 10)?;
+        text.push(ZERO_DIGIT + (number % 10) as u8)?;
+    }
+    Ok(())
+}
