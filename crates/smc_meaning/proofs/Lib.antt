@@ -2,3 +2,5 @@ pub mod BoundLaws
 mod DigitLaws
 mod DateLaws
 mod PieceLaws
+mod RowOrder
+mod SortLaws

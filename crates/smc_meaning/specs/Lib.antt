@@ -5,3 +5,4 @@ pub mod Cells
 pub mod Dates
 pub mod Printed
 pub mod Worked
+pub mod Orders

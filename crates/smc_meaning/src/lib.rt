@@ -14,7 +14,9 @@ mod cell;
 mod decimal;
 pub mod laws;
 mod leaf;
+mod order;
 
 pub use answer::{Answer, AnswerRow};
 pub use cell::Cell;
 pub use decimal::Decimal;
+pub use order::compare_rows;
