@@ -2,5 +2,5 @@ pub mod BoundLaws
 mod DigitLaws
 mod DateLaws
 mod PieceLaws
-mod RowOrder
-mod SortLaws
+pub mod RowOrder
+pub mod SortLaws

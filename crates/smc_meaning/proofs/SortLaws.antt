@@ -1,5 +1,5 @@
 -- A list in order is one, whatever order its elements came in.
-use Rattle.std.proofs.Common.{◌≡◌, ℕ, suc, ◌+◌, ◌<◌, ◌≤◌, true, false, if◌then◌else◌, List, [], ◌∷◌, get_or, length, sum_by, refl, sym, ap, ◌∙◌, arith}
+use Rattle.std.proofs.Common.{◌≡◌, ℕ, zero, suc, add-one, ◌+◌, ◌<◌, ◌≤◌, true, false, if◌then◌else◌, List, [], ◌∷◌, get_or, length, sum_by, refl, sym, ap, ◌∙◌, arith}
 use Rattle.std.specs.Bool.{⊤}
 use Rattle.std.specs.Cmp.{IsTotalOrder, alike_right, tied_itself, upto}
 use Rattle.std.specs.List.Sorted.{IsPermutation, IsSortedBy}
@@ -7,7 +7,7 @@ use Rattle.std.specs.Ordering.{is_eq, is_gt, is_lt, ordering_reverse}
 use Rattle.std.specs.declared.cmp.Ordering.{Ordering}
 use Rattle.std.specs.declared.cmp.Ordering.TheVariants.{Equal, Greater, Less}
 use Rattle.std.proofs.lemmas.Bool.{cond_both}
-use Rattle.std.proofs.lemmas.List.Sorted.{ranks_by, sorted_far, sum_by-IsPermutation}
+use Rattle.std.proofs.lemmas.List.Sorted.{IsPermutation-cons, IsPermutation-middle, IsPermutation-refl, IsPermutation-trans, ranks_by, sorted_far, sum_by-IsPermutation}
 use Rattle.std.proofs.lemmas.List.Sums.{sum_by-cons}
 use Rattle.std.proofs.lemmas.Map.Lookups.{CmpEqualImpliesEq}
 use Rattle.smc_meaning.specs.Orders.{put, sorted}
@@ -145,3 +145,33 @@ module _ {X : Type 0} (order : X → X → Ordering) (total : IsTotalOrder order
 
   pub ascends-from_sort : (xs : List X) → IsSortedBy (λ x y. is_lt (order x y)) xs → Ascends xs
   ascends-from_sort xs is = ascends_from xs (sorted_far (λ x y. is_lt (order x y)) (ranks_by total (λ x. x)) xs is)
+
+  -- ---- a sorted list is a sort of the list
+
+  permutation-put : (x : X) (xs : List X) → IsPermutation (x ∷ xs) (put order x xs)
+  permutation-put x [] = IsPermutation-refl (x ∷ [])
+  permutation-put x (y ∷ ys) =
+      cond_both (is_gt (order x y)) (y ∷ put order x ys) (x ∷ y ∷ ys) (λ (list : List X). IsPermutation (x ∷ y ∷ ys) list)
+      (λ behind.
+      IsPermutation-trans (x ∷ y ∷ ys) (y ∷ x ∷ ys) (y ∷ put order x ys) (IsPermutation-middle (x ∷ []) y ys)
+      (IsPermutation-cons y (x ∷ ys) (put order x ys) (permutation-put x ys)))
+      (λ before. IsPermutation-refl (x ∷ y ∷ ys))
+
+  pub permutation-sorted : (xs : List X) → IsPermutation xs (sorted order xs)
+  permutation-sorted [] = IsPermutation-refl []
+  permutation-sorted (x ∷ xs) =
+      IsPermutation-trans (x ∷ xs) (x ∷ sorted order xs) (put order x (sorted order xs)) (IsPermutation-cons x xs (sorted order xs) (permutation-sorted xs))
+      (permutation-put x (sorted order xs))
+
+  rises_at : (xs : List X) → Ascends xs → (k : ℕ) (d : X) → suc k < length xs → is_lt (order (get_or xs (suc k) d) (get_or xs k d)) ≡ false
+  rises_at [] ascends k d within = absurd (omega (arith, within))
+  rises_at (x ∷ []) ascends k d within = absurd (omega (arith, within))
+  rises_at (x ∷ y ∷ ys) ascends zero d within = sym (gt-reverse (order y x)) ∙ sym (ap is_gt (total.antisymm x y)) ∙ ascends.0.0
+  rises_at (x ∷ y ∷ ys) ascends (suc k) d within = rises_at (y ∷ ys) ascends.1 k d (omega (arith, within))
+
+  pub rises-sorted : (xs : List X) → IsSortedBy (λ x y. is_lt (order x y)) (sorted order xs)
+  rises-sorted xs k d low within = rw add-one (rises_at (sorted order xs) (ascends-sorted xs) k d (omega (arith, within)))
+
+  -- two orders of the same elements are sorted to one list
+  pub sorted-permutation : (xs ys : List X) → IsPermutation xs ys → sorted order ys ≡ sorted order xs
+  sorted-permutation xs ys same = sorted_is_one xs (sorted order ys) (IsPermutation-trans xs ys (sorted order ys) same (permutation-sorted ys)) (ascends-sorted ys)

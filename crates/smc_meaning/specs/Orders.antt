@@ -57,3 +57,7 @@ sorted order (first ∷ further) = put order first (sorted order further)
 abbrev pub first_of : {X : Type 0} → Option ℕ → List X → List X
 first_of None list = list
 first_of (Some most) list = take most list
+
+-- the first so many of these rows, in order
+abbrev pub ordered : List OrderKey → Option ℕ → List (List (Option Cell)) → List (List (Option Cell))
+ordered keys first rows = first_of first (sorted (row_order keys) rows)

@@ -1,5 +1,6 @@
 -- Answers and their texts.
-use Rattle.std.specs.Prelude.{pos, negsuc, ℕ, List, [], ◌∷◌, Option, None, Some, codes}
+use Rattle.std.specs.Prelude.{true, pos, negsuc, ℕ, List, [], ◌∷◌, Option, None, Some, codes}
+use Rattle.smc_plan.specs.declared.plan.OrderKey.{OrderKey}
 use Rattle.smc_meaning.specs.Values.{Cell, number, day, text}
 
 -- a count of two
@@ -26,3 +27,25 @@ a_day = (Some (day (pos 9_190)) ∷ []) ∷ []
 
 abbrev pub a_day_text : List ℕ
 a_day_text = codes "rows 1\n1995-03-01\n"
+
+-- a row of a text and a count
+abbrev pub counted : Option Cell → ℕ → List (Option Cell)
+counted name times = name ∷ Some (number (pos times) 0) ∷ []
+
+-- the second column falls
+abbrev pub count_falls : List OrderKey
+count_falls = record { column = 1; desc = true } ∷ []
+
+-- four rows, of which three have one count
+abbrev pub four_rows : List (List (Option Cell))
+four_rows =
+    counted (Some (text (codes "b"))) 1 ∷ counted (Some (text (codes "a"))) 2 ∷ counted (Some (text (codes "a"))) 1 ∷ counted None 1 ∷ []
+
+-- in order: the greatest count first, then none before the texts
+abbrev pub four_in_order : List (List (Option Cell))
+four_in_order =
+    counted (Some (text (codes "a"))) 2 ∷ counted None 1 ∷ counted (Some (text (codes "a"))) 1 ∷ counted (Some (text (codes "b"))) 1 ∷ []
+
+-- the first two of them
+abbrev pub two_in_order : List (List (Option Cell))
+two_in_order = counted (Some (text (codes "a"))) 2 ∷ counted None 1 ∷ []

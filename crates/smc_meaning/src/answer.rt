@@ -2,10 +2,13 @@
 ghost use Rattle.std.specs.Prelude.{◌≡◌, ◌++◌, List, map, All, IfOk, OnOk};
 ghost use Rattle.std.specs.List.{flat_map};
 ghost use Rattle.smc_meaning.specs.Cells.{CanPrint, column_seen};
+ghost use Rattle.smc_meaning.specs.Orders.{ordered};
 ghost use Rattle.smc_meaning.specs.Printed.{answer_text, further_text, row_line, row_text};
 
 use crate::Cell;
 use crate::cell::{print_column, print_whole};
+use crate::order::{keep_first, sort_rows};
+use smc_plan::OrderKey;
 use smc_words::NoMemory;
 use std::alloc::Global;
 use std::marker::Model;
@@ -76,6 +79,15 @@ impl Answer {
         ensures { result ≡ rows.items }
     {
         Answer { rows }
+    }
+
+    /// The first so many of these rows in order, and all where no number is given; takes no memory.
+    pub fn ordered(keys: &[OrderKey], first: Option<u64>, mut rows: Vec<AnswerRow>) -> Answer
+        ensures { result ≡ ordered keys.now first rows.items }
+    {
+        sort_rows(keys, &mut rows);
+        keep_first(first, &mut rows);
+        Answer::of(rows)
     }
 
     /// Its rows, in order.

@@ -116,7 +116,7 @@ pub fn compare_rows(keys: &[OrderKey], one: &AnswerRow, other: &AnswerRow) -> Or
 }
 
 /// Puts rows in order.
-pub fn sort_rows(keys: &[OrderKey], rows: &mut Vec<AnswerRow>)
+pub(crate) fn sort_rows(keys: &[OrderKey], rows: &mut Vec<AnswerRow>)
     ensures { rows.new.items ≡ sorted (row_order keys.now) rows.old.items }
 {
     rows.as_mut_slice()
@@ -124,7 +124,7 @@ pub fn sort_rows(keys: &[OrderKey], rows: &mut Vec<AnswerRow>)
 }
 
 /// Keeps the first so many rows, and all where no number is given.
-pub fn keep_first(first: Option<u64>, rows: &mut Vec<AnswerRow>)
+pub(crate) fn keep_first(first: Option<u64>, rows: &mut Vec<AnswerRow>)
     ensures { rows.new.items ≡ first_of first rows.old.items }
 {
     if let Some(most) = first {
