@@ -4,5 +4,5 @@ pub mod Decimals
 pub mod Cells
 pub mod Dates
 pub mod Printed
-pub mod Worked
+pub mod WorkedTexts
 pub mod Orders

@@ -12,7 +12,7 @@ ghost use Rattle.std.specs.declared.cmp.Ordering.TheVariants.{Equal};
 ghost use Rattle.smc_plan.specs.declared.plan.OrderKey.{OrderKey};
 ghost use Rattle.smc_meaning.specs.Orders.{ordered, row_order, sorted};
 ghost use Rattle.smc_meaning.specs.Printed.{answer_text};
-ghost use Rattle.smc_meaning.specs.Worked.{a_count, a_count_text, a_day, a_day_text, count_falls, four_in_order, four_rows, nothing_text, some_kinds, some_kinds_text, two_in_order};
+ghost use Rattle.smc_meaning.specs.WorkedTexts.{a_count, a_count_text, a_day, a_day_text, count_falls, four_in_order, four_rows, nothing_text, some_kinds, some_kinds_text, two_in_order};
 
 /// In every row the value of an expression is one of its kind, within the bound of that, which is below the limit.
 pub fn values_are_bounded()
