@@ -4,3 +4,9 @@ mod DateLaws
 mod PieceLaws
 pub mod RowOrder
 pub mod SortLaws
+pub mod OperandLaws
+pub mod TreeSizes
+pub mod TextOrders
+pub mod SideLaws
+pub mod RowLaws
+pub mod GroupLaws

@@ -1,5 +1,6 @@
 -- The order of rows is total, and rows that it does not tell apart are one.
-use Rattle.std.proofs.Common.{◌≡◌, ℕ, ℤ, pos, Bool, true, false, if◌then◌else◌, List, [], ◌∷◌, Option, None, Some, slice_get, refl, ap, ◌∙◌, subst}
+use Rattle.std.proofs.Common.{◌≡◌, ℕ, ◌-◌, max, ℤ, pos, Bool, true, false, if◌then◌else◌, List, [], ◌∷◌, Option, None, Some, slice_get, refl, ap, ◌∙◌, subst, arith}
+use Rattle.std.proofs.Math.IntN.{*ℤ-one}
 use Rattle.std.specs.Cmp.{IsTotalOrder}
 use Rattle.std.specs.Cmp.Derive.{point_total}
 use Rattle.std.specs.Cmp.Lexicographic.{options_total, slice_cmp}
@@ -10,7 +11,7 @@ use Rattle.std.proofs.lemmas.Cmp.{back_total, int_cmp_total, lists_total, nat_cm
 use Rattle.std.proofs.lemmas.Map.Lookups.{CmpEqualImpliesEq, exact_bytes, exact_signed, exact_unsigned}
 use Rattle.smc_plan.specs.declared.plan.OrderKey.{OrderKey}
 use Rattle.smc_meaning.specs.Orders.{cell_order, column_order, key_order, keys_order, order_at, row_order, sort_of}
-use Rattle.smc_meaning.specs.Values.{Cell, number, day, text}
+use Rattle.smc_meaning.specs.Values.{Cell, number, day, text, units_at}
 
 -- ---- answers of a comparison
 
@@ -30,6 +31,26 @@ then_equal Equal = refl
 then_equal Greater = refl
 
 -- ---- values
+
+-- numbers of one scale compare by their units
+same_units : (larger : ℕ) (units : ℤ) (scale : ℕ) → larger ≡ scale → units_at larger units scale ≡ units
+unfolding lib.IntN.one
+same_units larger units scale same =
+    let none : larger - scale ≡ 0 = omega (arith, same) in
+    rw none (*ℤ-one units)
+
+pub number_order : (one other : ℤ) (s t : ℕ) → ordering_then (nat_cmp s t) (int_cmp one other) ≡ cell_order (number one s) (number other t)
+number_order one other s t = by (nat_cmp s t) refl
+  where
+    by : (scales : Ordering) → nat_cmp s t ≡ scales
+        → ordering_then scales (int_cmp one other) ≡ ordering_then scales (int_cmp (units_at (max s t) one s) (units_at (max s t) other t))
+    by Less is = refl
+    by Equal is =
+        let same : s ≡ t = exact_unsigned s t is in
+        let left : units_at (max s t) one s ≡ one = same_units (max s t) one s (omega (arith, same)) in
+        let right : units_at (max s t) other t ≡ other = same_units (max s t) other t (omega (arith, same)) in
+        rw (left, right) refl
+    by Greater is = refl
 
 scale_in : Cell → ℕ
 scale_in (number units scale) = scale
@@ -57,7 +78,7 @@ parts_total =
 
 by_parts-is : (one other : Cell) → by_parts one other ≡ cell_order one other
 unfolding scale_in units_in bytes_in
-by_parts-is (number one s) (number other t) = ap (λ rest. ordering_then (nat_cmp s t) rest) (then_equal (int_cmp one other))
+by_parts-is (number one s) (number other t) = ap (λ rest. ordering_then (nat_cmp s t) rest) (then_equal (int_cmp one other)) ∙ number_order one other s t
 by_parts-is (day one) (day other) = then_equal (int_cmp one other)
 by_parts-is (text one) (text other) = refl
 by_parts-is (number one s) (day other) = refl
@@ -75,7 +96,7 @@ same_number one other s t units scales = ap (λ u. number u s) units ∙ ap (λ 
 
 pub cell_exact : CmpEqualImpliesEq cell_order
 cell_exact (number one s) (number other t) is =
-    let both = both_equal (nat_cmp s t) (int_cmp one other) is in
+    let both = both_equal (nat_cmp s t) (int_cmp one other) (number_order one other s t ∙ is) in
     same_number one other s t (exact_signed one other both.further) (exact_unsigned s t both.first)
 cell_exact (day one) (day other) is = ap day (exact_signed one other is)
 cell_exact (text one) (text other) is = ap text (exact_bytes one other is)

@@ -3,14 +3,14 @@ use Rattle.std.proofs.Common.{◌≡◌, ℕ, zero, suc, add-one, ◌+◌, ◌<�
 use Rattle.std.specs.Bool.{⊤}
 use Rattle.std.specs.Cmp.{IsTotalOrder, alike_right, tied_itself, upto}
 use Rattle.std.specs.List.Sorted.{IsPermutation, IsSortedBy}
-use Rattle.std.specs.Ordering.{is_eq, is_gt, is_lt, ordering_reverse}
+use Rattle.std.specs.Ordering.{is_eq, is_gt, is_le, is_lt, ordering_reverse}
 use Rattle.std.specs.declared.cmp.Ordering.{Ordering}
 use Rattle.std.specs.declared.cmp.Ordering.TheVariants.{Equal, Greater, Less}
 use Rattle.std.proofs.lemmas.Bool.{cond_both}
 use Rattle.std.proofs.lemmas.List.Sorted.{IsPermutation-cons, IsPermutation-middle, IsPermutation-refl, IsPermutation-trans, ranks_by, sorted_far, sum_by-IsPermutation}
 use Rattle.std.proofs.lemmas.List.Sums.{sum_by-cons}
 use Rattle.std.proofs.lemmas.Map.Lookups.{CmpEqualImpliesEq}
-use Rattle.smc_meaning.specs.Orders.{put, sorted}
+use Rattle.smc_meaning.specs.Sorting.{placed, sorted}
 
 gt-reverse : (r : Ordering) → is_gt (ordering_reverse r) ≡ is_lt r
 gt-reverse Less = refl
@@ -21,6 +21,17 @@ reversed_less : (r : Ordering) → is_gt r ≡ true → ordering_reverse r ≡ L
 reversed_less Less is = cc
 reversed_less Equal is = cc
 reversed_less Greater is = refl
+
+-- a test of an answer is the other one turned
+gt_from_le : (r : Ordering) → is_le r ≡ true → is_gt r ≡ false
+gt_from_le Less is = refl
+gt_from_le Equal is = refl
+gt_from_le Greater is = cc
+
+gt_from_not_le : (r : Ordering) → is_le r ≡ false → is_gt r ≡ true
+gt_from_not_le Less is = cc
+gt_from_not_le Equal is = cc
+gt_from_not_le Greater is = refl
 
 module _ {X : Type 0} (order : X → X → Ordering) (total : IsTotalOrder order) (exact : CmpEqualImpliesEq order) where
   -- it comes behind none of a list
@@ -45,38 +56,41 @@ module _ {X : Type 0} (order : X → X → Ordering) (total : IsTotalOrder order
 
   -- ---- a sorted list ascends
 
-  least-put : (z x : X) (xs : List X) → is_gt (order z x) ≡ false → IsLeast z xs → IsLeast z (put order x xs)
-  least-put z x [] first least = (first, tt)
-  least-put z x (y ∷ ys) first least =
-      cond_both (is_gt (order x y)) (y ∷ put order x ys) (x ∷ y ∷ ys) (IsLeast z) (λ behind. (least.0, least-put z x ys first least.1)) (λ before. (first, least))
+  least-placed : (z x : X) (xs : List X) → is_gt (order z x) ≡ false → IsLeast z xs → IsLeast z (placed order x xs)
+  least-placed z x [] first least = (first, tt)
+  least-placed z x (y ∷ ys) first least =
+      cond_both (is_le (order x y)) (x ∷ y ∷ ys) (y ∷ placed order x ys) (IsLeast z) (λ before. (first, least)) (λ behind. (least.0, least-placed z x ys first least.1))
 
   least-below : (x y : X) (ys : List X) → is_gt (order x y) ≡ false → IsLeast y ys → IsLeast x ys
   least-below x y [] below least = tt
   least-below x y (z ∷ zs) below least = (upto total x y z below least.0, least-below x y zs below least.1)
 
-  ascends-put : (x : X) (xs : List X) → Ascends xs → Ascends (put order x xs)
-  ascends-put x [] ascends = (tt, tt)
-  ascends-put x (y ∷ ys) ascends =
-      cond_both (is_gt (order x y)) (y ∷ put order x ys) (x ∷ y ∷ ys) Ascends
-      (λ behind. (least-put y x ys (ap is_gt (total.antisymm y x ∙ reversed_less (order x y) behind)) ascends.0, ascends-put x ys ascends.1))
-      (λ before. ((before, least-below x y ys before ascends.0), ascends))
+  ascends-placed : (x : X) (xs : List X) → Ascends xs → Ascends (placed order x xs)
+  ascends-placed x [] ascends = (tt, tt)
+  ascends-placed x (y ∷ ys) ascends =
+      cond_both (is_le (order x y)) (x ∷ y ∷ ys) (y ∷ placed order x ys) Ascends
+      (λ before. ((gt_from_le (order x y) before, least-below x y ys (gt_from_le (order x y) before) ascends.0), ascends))
+      (λ behind. (
+        least-placed y x ys (ap is_gt (total.antisymm y x ∙ reversed_less (order x y) (gt_from_not_le (order x y) behind))) ascends.0,
+        ascends-placed x ys ascends.1,
+      ))
 
   pub ascends-sorted : (xs : List X) → Ascends (sorted order xs)
   ascends-sorted [] = tt
-  ascends-sorted (x ∷ xs) = ascends-put x (sorted order xs) (ascends-sorted xs)
+  ascends-sorted (x ∷ xs) = ascends-placed x (sorted order xs) (ascends-sorted xs)
 
   -- ---- and has the elements of the list
 
-  count-put : (z x : X) (xs : List X) → count z (put order x xs) ≡ once z x + count z xs
-  count-put z x [] = count-cons z x []
-  count-put z x (y ∷ ys) =
-      let further = count-put z x ys in
-      cond_both (is_gt (order x y)) (y ∷ put order x ys) (x ∷ y ∷ ys) (λ (list : List X). count z list ≡ once z x + count z (y ∷ ys))
-      (λ behind. omega (arith, further, count-cons z y (put order x ys), count-cons z y ys)) (λ before. count-cons z x (y ∷ ys))
+  count-placed : (z x : X) (xs : List X) → count z (placed order x xs) ≡ once z x + count z xs
+  count-placed z x [] = count-cons z x []
+  count-placed z x (y ∷ ys) =
+      let further = count-placed z x ys in
+      cond_both (is_le (order x y)) (x ∷ y ∷ ys) (y ∷ placed order x ys) (λ (list : List X). count z list ≡ once z x + count z (y ∷ ys))
+      (λ before. count-cons z x (y ∷ ys)) (λ behind. omega (arith, further, count-cons z y (placed order x ys), count-cons z y ys))
 
   count-sorted : (z : X) (xs : List X) → count z (sorted order xs) ≡ count z xs
   count-sorted z [] = refl
-  count-sorted z (x ∷ xs) = count-put z x (sorted order xs) ∙ ap (λ further. once z x + further) (count-sorted z xs) ∙ sym (count-cons z x xs)
+  count-sorted z (x ∷ xs) = count-placed z x (sorted order xs) ∙ ap (λ further. once z x + further) (count-sorted z xs) ∙ sym (count-cons z x xs)
 
   -- ---- lists that ascend and have the same elements are one
 
@@ -148,20 +162,20 @@ module _ {X : Type 0} (order : X → X → Ordering) (total : IsTotalOrder order
 
   -- ---- a sorted list is a sort of the list
 
-  permutation-put : (x : X) (xs : List X) → IsPermutation (x ∷ xs) (put order x xs)
-  permutation-put x [] = IsPermutation-refl (x ∷ [])
-  permutation-put x (y ∷ ys) =
-      cond_both (is_gt (order x y)) (y ∷ put order x ys) (x ∷ y ∷ ys) (λ (list : List X). IsPermutation (x ∷ y ∷ ys) list)
-      (λ behind.
-      IsPermutation-trans (x ∷ y ∷ ys) (y ∷ x ∷ ys) (y ∷ put order x ys) (IsPermutation-middle (x ∷ []) y ys)
-      (IsPermutation-cons y (x ∷ ys) (put order x ys) (permutation-put x ys)))
+  permutation-placed : (x : X) (xs : List X) → IsPermutation (x ∷ xs) (placed order x xs)
+  permutation-placed x [] = IsPermutation-refl (x ∷ [])
+  permutation-placed x (y ∷ ys) =
+      cond_both (is_le (order x y)) (x ∷ y ∷ ys) (y ∷ placed order x ys) (λ (list : List X). IsPermutation (x ∷ y ∷ ys) list)
       (λ before. IsPermutation-refl (x ∷ y ∷ ys))
+      (λ behind.
+      IsPermutation-trans (x ∷ y ∷ ys) (y ∷ x ∷ ys) (y ∷ placed order x ys) (IsPermutation-middle (x ∷ []) y ys)
+      (IsPermutation-cons y (x ∷ ys) (placed order x ys) (permutation-placed x ys)))
 
   pub permutation-sorted : (xs : List X) → IsPermutation xs (sorted order xs)
   permutation-sorted [] = IsPermutation-refl []
   permutation-sorted (x ∷ xs) =
-      IsPermutation-trans (x ∷ xs) (x ∷ sorted order xs) (put order x (sorted order xs)) (IsPermutation-cons x xs (sorted order xs) (permutation-sorted xs))
-      (permutation-put x (sorted order xs))
+      IsPermutation-trans (x ∷ xs) (x ∷ sorted order xs) (placed order x (sorted order xs)) (IsPermutation-cons x xs (sorted order xs) (permutation-sorted xs))
+      (permutation-placed x (sorted order xs))
 
   rises_at : (xs : List X) → Ascends xs → (k : ℕ) (d : X) → suc k < length xs → is_lt (order (get_or xs (suc k) d) (get_or xs k d)) ≡ false
   rises_at [] ascends k d within = absurd (omega (arith, within))

@@ -24,3 +24,8 @@ CanPrint None = ⊤
 CanPrint (Some (number units scale)) = scale ≤ MAX_SCALE
 CanPrint (Some (day days)) = IsDay days
 CanPrint (Some (text bytes)) = ⊤
+
+-- the value is a text
+abbrev pub IsOfText : Cell → Type 0
+IsOfText (text bytes) = ⊤
+IsOfText _ = ⊥

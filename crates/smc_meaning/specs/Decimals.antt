@@ -25,3 +25,9 @@ pub record CanAdd (one other : Decimal) : Type 0 where
 pub record CanMultiply (one other : Decimal) : Type 0 where
   pub few : one.scale + other.scale ≤ MAX_SCALE
   pub small : unsigned_abs one.units * unsigned_abs other.units < SIZE_LIMIT
+
+-- both, brought to the larger of their scales, are below the limit
+pub record CanMeet (one other : Decimal) : Type 0 where
+  pub few : larger_of one other ≤ MAX_SCALE
+  pub small : size_at (larger_of one other) one < SIZE_LIMIT
+  pub other_small : size_at (larger_of one other) other < SIZE_LIMIT

@@ -11,6 +11,8 @@ use Rattle.smc_plan.specs.declared.kind.Kind.{Kind}
 use Rattle.smc_plan.specs.declared.kind.Kind.TheVariants.{Number, Day, Text}
 use Rattle.smc_plan.specs.declared.kind.TheConstants.{DAY_BOUND}
 use Rattle.smc_plan.specs.declared.leaf.Leaf.{Leaf}
+use Rattle.smc_meaning.specs.declared.value.Sort.{Sort}
+use Rattle.smc_meaning.specs.declared.value.Sort.TheVariants.{Number as OfNumber, Day as OfDay, Text as OfText}
 use Rattle.smc_meaning.specs.Values.{Cell, number, day, text}
 
 -- what the leaf at a place is, where there is one
@@ -37,6 +39,11 @@ kind_of_typed leaves (typed.difference left right) = kind_of_both added (kind_of
 kind_of_typed leaves (typed.product left right) = kind_of_both multiplied (kind_of_typed leaves left) (kind_of_typed leaves right)
 kind_of_typed leaves (typed.minus of) = and_then (kind_of_typed leaves of) negated
 
+-- the expression is a number, a day or a text
+pub record IsTyped (leaves : List Leaf) (typed : TypedTree) : Type 0 where
+  pub kind : Kind
+  pub kind_is : kind_of_typed leaves typed ≡ Ok kind
+
 -- the expression is a number
 pub record IsNumber (leaves : List Leaf) (typed : TypedTree) : Type 0 where
   pub extent : Extent
@@ -62,3 +69,24 @@ IsOf (Number extent) (number units scale) = HasExtent extent units scale
 IsOf (Day bound) (day days) = unsigned_abs days ≤ bound
 IsOf Text (text bytes) = ⊤
 IsOf kind cell = ⊥
+
+-- whether an expression is a number, a day or a text, by its first operand
+abbrev pub sort_of_kind : Kind → Sort
+sort_of_kind (Number extent) = OfNumber
+sort_of_kind (Day bound) = OfDay
+sort_of_kind Text = OfText
+
+-- the same of a leaf, where there is one
+abbrev pub sort_of_leaf : Option Leaf → Sort
+sort_of_leaf None = OfText
+sort_of_leaf (Some leaf) = sort_of_kind (kind_of leaf.kind)
+
+abbrev pub sort_of : List Leaf → TypedTree → Sort
+sort_of leaves (typed.number units scale) = OfNumber
+sort_of leaves (typed.day days) = OfDay
+sort_of leaves (typed.text bytes) = OfText
+sort_of leaves (typed.leaf place) = sort_of_leaf (slice_get leaves place)
+sort_of leaves (typed.sum left right) = sort_of leaves left
+sort_of leaves (typed.difference left right) = sort_of leaves left
+sort_of leaves (typed.product left right) = OfNumber
+sort_of leaves (typed.minus of) = OfNumber

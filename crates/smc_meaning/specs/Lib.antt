@@ -1,3 +1,4 @@
+pub mod Rows
 pub mod Values
 pub mod Kinds
 pub mod Decimals
@@ -6,3 +7,12 @@ pub mod Dates
 pub mod Printed
 pub mod WorkedTexts
 pub mod Orders
+pub mod Texts
+pub mod Comparing
+pub mod Kept
+pub mod Conditions
+pub mod Sound
+pub mod Sorting
+pub mod Groups
+pub mod Answers
+pub mod Worked

@@ -1,8 +1,8 @@
 //! A column of an answer, and its text.
-ghost use Rattle.std.specs.Prelude.{◌≡◌, ◌++◌, ◌≤◌, ◌<◌, ◌^◌, OnOk, decimal};
+ghost use Rattle.std.specs.Prelude.{◌≡◌, ◌++◌, ◌≤◌, ◌<◌, ◌^◌, IfOk, OnErr, OnOk, decimal};
 ghost use Rattle.smc_types.specs.Days.{IsDay};
 ghost use Rattle.smc_plan.specs.declared.kind.TheConstants.{MAX_SCALE};
-ghost use Rattle.smc_meaning.specs.Cells.{CanPrint, column_seen};
+ghost use Rattle.smc_meaning.specs.Cells.{CanPrint, IsOfText, cell_seen, column_seen};
 ghost use Rattle.smc_meaning.specs.Dates.{day_text};
 ghost use Rattle.smc_meaning.specs.Printed.{column_text, decimals_text, last_digits, number_text};
 
@@ -10,6 +10,7 @@ use crate::Decimal;
 use itoa::Buffer;
 use smc_types::{RowText, day_text};
 use smc_words::NoMemory;
+use std::alloc::Global;
 
 /// The digit of 0; the others follow it.
 const ZERO_DIGIT: u8 = b'0';
@@ -30,6 +31,23 @@ pub enum Cell {
     /// Days from 1970-01-01.
     Day(i32),
     Text(RowText),
+}
+
+impl Cell {
+    /// The same value. Only a text takes memory.
+    pub fn copy(&self, alloc: Global) -> Result<Cell, NoMemory>
+        ensures done { IfOk result (λ cell. cell_seen cell ≡ cell_seen self.now) }
+        ensures cause { OnErr result (IsOfText (cell_seen self.now)) }
+    {
+        match self {
+            Cell::Number(number) => Ok(Cell::Number(*number)),
+            Cell::Day(day) => Ok(Cell::Day(*day)),
+            Cell::Text(text) => {
+                let bytes = Vec::from_slice(alloc, text.as_slice())?;
+                Ok(Cell::Text(RowText::of(bytes)))
+            }
+        }
+    }
 }
 
 /// Puts the text of a column behind what is there.

@@ -1,8 +1,11 @@
 //! Numbers with decimals, and their sums and products.
 ghost use Rattle.std.specs.Prelude.{◌≡◌, ◌<◌, ◌≤◌, ◌-◌, ◌*◌, ◌^◌, pos, ◌*ℤ◌, unsigned_abs};
 ghost use Rattle.smc_plan.specs.declared.kind.TheConstants.{MAX_SCALE, SIZE_LIMIT};
+ghost use Rattle.smc_meaning.specs.Comparing.{compare};
 ghost use Rattle.smc_meaning.specs.Values.{less, negative, plus, times, units_at};
-ghost use Rattle.smc_meaning.specs.Decimals.{CanAdd, CanMultiply, decimal_cell, size_at};
+ghost use Rattle.smc_meaning.specs.Decimals.{CanAdd, CanMeet, CanMultiply, decimal_cell, size_at};
+
+use std::cmp::Ordering;
 
 /// So many units, of which ten to the power of `scale` make one.
 #[derive(Clone, Copy, Debug)]
@@ -34,7 +37,8 @@ impl Decimal {
     /// The sum, at the larger scale.
     pub(crate) fn plus(self, other: Decimal) -> Decimal
         requires { CanAdd self other }
-        ensures { decimal_cell result ≡ plus (decimal_cell self) (decimal_cell other) }
+        ensures value { decimal_cell result ≡ plus (decimal_cell self) (decimal_cell other) }
+        ensures small { unsigned_abs result.units < SIZE_LIMIT }
     {
         let scale = self.scale.max(other.scale);
         Decimal {
@@ -46,7 +50,8 @@ impl Decimal {
     /// The difference, at the larger scale.
     pub(crate) fn less(self, other: Decimal) -> Decimal
         requires { CanAdd self other }
-        ensures { decimal_cell result ≡ less (decimal_cell self) (decimal_cell other) }
+        ensures value { decimal_cell result ≡ less (decimal_cell self) (decimal_cell other) }
+        ensures small { unsigned_abs result.units < SIZE_LIMIT }
     {
         let scale = self.scale.max(other.scale);
         Decimal {
@@ -58,7 +63,8 @@ impl Decimal {
     /// The product, with the decimals of both.
     pub(crate) fn times(self, other: Decimal) -> Decimal
         requires { CanMultiply self other }
-        ensures { decimal_cell result ≡ times (decimal_cell self) (decimal_cell other) }
+        ensures value { decimal_cell result ≡ times (decimal_cell self) (decimal_cell other) }
+        ensures small { unsigned_abs result.units < SIZE_LIMIT }
     {
         Decimal {
             units: self.units * other.units,
@@ -75,5 +81,13 @@ impl Decimal {
             units: -self.units,
             scale: self.scale,
         }
+    }
+    /// How two numbers compare.
+    pub(crate) fn compare(self, other: Decimal) -> Ordering
+        requires { CanMeet self other }
+        ensures { result ≡ compare (decimal_cell self) (decimal_cell other) }
+    {
+        let scale = self.scale.max(other.scale);
+        self.units_at(scale).cmp(&other.units_at(scale))
     }
 }

@@ -10,9 +10,11 @@ ghost use Rattle.std.specs.Cmp.{IsTotalOrder};
 ghost use Rattle.std.specs.List.Sorted.{IsPermutation, IsSorted};
 ghost use Rattle.std.specs.declared.cmp.Ordering.TheVariants.{Equal};
 ghost use Rattle.smc_plan.specs.declared.plan.OrderKey.{OrderKey};
-ghost use Rattle.smc_meaning.specs.Orders.{ordered, row_order, sorted};
+ghost use Rattle.smc_meaning.specs.Orders.{ordered, row_order};
+ghost use Rattle.smc_meaning.specs.Sorting.{sorted};
 ghost use Rattle.smc_meaning.specs.Printed.{answer_text};
 ghost use Rattle.smc_meaning.specs.WorkedTexts.{a_count, a_count_text, a_day, a_day_text, count_falls, four_in_order, four_rows, nothing_text, some_kinds, some_kinds_text, two_in_order};
+ghost use Rattle.smc_meaning.specs.Worked.{AveragesAreRounded, GroupsAreOrdered, NoRowsAreOneGroup, TextsAndFolds, TiesGoByTheColumns};
 
 /// In every row the value of an expression is one of its kind, within the bound of that, which is below the limit.
 pub fn values_are_bounded()
@@ -50,4 +52,13 @@ pub fn sorted_is_one()
         → IsPermutation rows others → IsSorted (row_order keys) others → others ≡ sorted (row_order keys) rows }
     ensures bag { (keys : List OrderKey) (rows others : List (List (Option Cell)))
         → IsPermutation rows others → sorted (row_order keys) others ≡ sorted (row_order keys) rows }
+{}
+
+/// Answers over a few rows.
+pub fn worked()
+    ensures averages { AveragesAreRounded }
+    ensures no_rows { NoRowsAreOneGroup }
+    ensures order { GroupsAreOrdered }
+    ensures ties { TiesGoByTheColumns }
+    ensures texts { TextsAndFolds }
 {}

@@ -5,10 +5,14 @@ ghost use Rattle.smc_types.specs.Columns.{width_of};
 ghost use Rattle.smc_types.specs.Rows as rows;
 ghost use Rattle.smc_types.specs.declared.column.FieldType.TheVariants.{Day};
 ghost use Rattle.smc_plan.specs.Leaves.{leaves_words};
-ghost use Rattle.smc_meaning.specs.Values.{cell_of, day, leaf_words, scale_of};
+ghost use Rattle.smc_meaning.specs.Values.{cell_of, day, leaf_words, scale_of, text};
 ghost use Rattle.smc_meaning.specs.Decimals.{decimal_cell};
+ghost use Rattle.smc_meaning.specs.Kinds.{sort_of_kind};
+ghost use Rattle.smc_meaning.specs.Texts.{IsWhole, bytes_in};
+ghost use Rattle.smc_meaning.specs.declared.value.Sort.TheVariants.{Text as OfText};
+ghost use Rattle.smc_plan.specs.Bounds.{kind_of};
 
-use crate::Decimal;
+use crate::{Decimal, TextIn};
 use smc_plan::{HUNDREDTHS, Leaf};
 use smc_types::{FieldType, day_in, number_in};
 
@@ -66,4 +70,17 @@ pub(crate) fn column_day(words: &[u64]) -> i128
     ensures { cell_of Day (rows.value_of Day words.now) ≡ day result }
 {
     i128::from(day_in(words[0]))
+}
+
+/// The text in the words of a column.
+pub(crate) fn column_text<'a>(kind: FieldType, words: &'a [u64]) -> TextIn<'a>
+    requires text { sort_of_kind (kind_of kind) ≡ OfText }
+    requires words { length words.now ≡ width_of kind }
+    ensures value { cell_of kind (rows.value_of kind words.now) ≡ text (bytes_in result) }
+    ensures whole { IsWhole result }
+{
+    match kind {
+        FieldType::Text(width) => TextIn::Words { words, width },
+        _ => TextIn::Bytes(&[]),
+    }
 }

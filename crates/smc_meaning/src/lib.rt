@@ -11,12 +11,22 @@
 
 mod answer;
 mod cell;
+mod comparing;
 mod decimal;
+mod filter;
+mod group;
 pub mod laws;
 mod leaf;
 mod order;
+mod rows;
+mod text;
+mod value;
 
 pub use answer::{Answer, AnswerRow};
 pub use cell::Cell;
+pub use comparing::compare_rows;
 pub use decimal::Decimal;
-pub use order::compare_rows;
+pub use filter::kept;
+pub use rows::Rows;
+pub use text::TextIn;
+pub use value::{Sort, day_at, number_at, sort_at, text_at};

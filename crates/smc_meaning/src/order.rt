@@ -2,7 +2,8 @@
 ghost use Rattle.std.specs.Prelude.{◌≡◌, map};
 ghost use Rattle.std.specs.Cmp.Lexicographic.{slice_cmp};
 ghost use Rattle.smc_meaning.specs.Cells.{cell_seen, column_seen};
-ghost use Rattle.smc_meaning.specs.Orders.{cell_order, column_order, first_of, key_order, keys_order, order_at, row_order, sorted};
+ghost use Rattle.smc_meaning.specs.Orders.{cell_order, column_order, first_of, key_order, keys_order, order_at, row_order};
+ghost use Rattle.smc_meaning.specs.Sorting.{sorted};
 
 use crate::{AnswerRow, Cell, Decimal};
 use smc_plan::OrderKey;
@@ -104,7 +105,7 @@ fn compare_by_keys(keys: &[OrderKey], one: &[Option<Cell>], other: &[Option<Cell
 }
 
 /// The order of two rows: by the keys, then by all columns from the left.
-pub fn compare_rows(keys: &[OrderKey], one: &AnswerRow, other: &AnswerRow) -> Ordering
+pub(crate) fn row_order(keys: &[OrderKey], one: &AnswerRow, other: &AnswerRow) -> Ordering
     ensures { result ≡ row_order keys.now one.now other.now }
 {
     let first = compare_by_keys(keys, one.as_slice(), other.as_slice());
@@ -120,7 +121,7 @@ pub(crate) fn sort_rows(keys: &[OrderKey], rows: &mut Vec<AnswerRow>)
     ensures { rows.new.items ≡ sorted (row_order keys.now) rows.old.items }
 {
     rows.as_mut_slice()
-        .sort_unstable_by(|one, other| compare_rows(keys, one, other));
+        .sort_unstable_by(|one, other| row_order(keys, one, other));
 }
 
 /// Keeps the first so many rows, and all where no number is given.

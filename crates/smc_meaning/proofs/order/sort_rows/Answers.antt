@@ -3,7 +3,8 @@ use Rattle.std.proofs.lemmas.List.{take_at}
 use Rattle.std.proofs.lemmas.Fn.{always_returns_same}
 use Rattle.std.proofs.lemmas.List.Sorted.{ranks_by}
 use Rattle.std.specs.Ordering.{is_lt}
-use Rattle.smc_meaning.specs.Orders.{row_order, sorted}
+use Rattle.smc_meaning.specs.Orders.{row_order}
+use Rattle.smc_meaning.specs.Sorting.{sorted}
 use Rattle.smc_meaning.proofs.RowOrder.{row_exact, row_total}
 use Rattle.smc_meaning.proofs.SortLaws.{ascends-from_sort, sorted_is_one}
 use Rattle.smc_meaning.proofs.order.sort_rows.Goals as goal
