@@ -10,3 +10,4 @@ pub mod TextOrders
 pub mod SideLaws
 pub mod RowLaws
 pub mod GroupLaws
+pub mod Printable
