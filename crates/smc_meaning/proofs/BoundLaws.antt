@@ -20,7 +20,8 @@ use Rattle.smc_plan.specs.declared.kind.Kind.TheVariants.{Number, Day, Text}
 use Rattle.smc_plan.specs.declared.kind.TheConstants.{DAY_BOUND, MAX_SCALE, SIZE_LIMIT}
 use Rattle.smc_plan.specs.declared.leaf.Leaf.{Leaf}
 use Rattle.smc_meaning.specs.Values.{Cell, number, day, text, cell_of, leaf_value, leaf_words, less, negative, plus, times, units_at, value_of}
-use Rattle.smc_meaning.specs.Kinds.{HasExtent, IsOf, kind_of_both, kind_of_day, kind_of_leaf, kind_of_typed}
+use Rattle.smc_plan.specs.Kinds.{day_kind, leaf_kind, kind_in}
+use Rattle.smc_meaning.specs.Kinds.{HasExtent, IsOf, kind_of_both}
 
 -- ---- kinds
 
@@ -164,7 +165,7 @@ column_has of.Day words = nearest_has DAY_MIN DAY_MAX DAY_BOUND (moved_back (sli
 column_has (of.Text bytes) words = tt
 column_has (of.RefTo table) words = tt
 
-leaf_has : (leaves : List Leaf) (place : ℕ) (found : Option Leaf) (words : List ℕ) (kind : Kind) → kind_of_leaf found ≡ Ok kind → IsOf kind (leaf_value leaves place found words)
+leaf_has : (leaves : List Leaf) (place : ℕ) (found : Option Leaf) (words : List ℕ) (kind : Kind) → leaf_kind found ≡ Ok kind → IsOf kind (leaf_value leaves place found words)
 leaf_has leaves place None words kind gives = cc
 leaf_has leaves place (Some leaf) words kind gives =
     let same : kind ≡ kind_of leaf.kind = cc in
@@ -191,26 +192,26 @@ day_has true days kind is gives =
 day_has false days kind is gives = cc
 
 -- the value of an expression
-pub value_has : (leaves : List Leaf) (tree : TypedTree) (words : List ℕ) (kind : Kind) → kind_of_typed leaves tree ≡ Ok kind → IsOf kind (value_of leaves tree words)
+pub value_has : (leaves : List Leaf) (tree : TypedTree) (words : List ℕ) (kind : Kind) → kind_in leaves tree ≡ Ok kind → IsOf kind (value_of leaves tree words)
 value_has leaves (typed.number units scale) words kind gives =
     bounded_has (Number (extent scale units)) kind (number (pos units) scale) gives (record { scale_is = refl; within = omega arith })
 value_has leaves (typed.day days) words kind gives = day_has _ days kind refl gives
 value_has leaves (typed.text bytes) words kind gives = let same : kind ≡ Text = cc in subst (λ (k : Kind). IsOf k (text bytes)) (sym same) tt
 value_has leaves (typed.leaf place) words kind gives = leaf_has leaves place (slice_get leaves place) words kind gives
 value_has leaves (typed.sum left right) words kind gives =
-    let both = both_are added (kind_of_typed leaves left) (kind_of_typed leaves right) kind gives in
+    let both = both_are added (kind_in leaves left) (kind_in leaves right) kind gives in
     plus_has both.one both.other kind (value_of leaves left words) (value_of leaves right words) both.made_is
     (value_has leaves left words both.one both.left_is) (value_has leaves right words both.other both.right_is)
 value_has leaves (typed.difference left right) words kind gives =
-    let both = both_are added (kind_of_typed leaves left) (kind_of_typed leaves right) kind gives in
+    let both = both_are added (kind_in leaves left) (kind_in leaves right) kind gives in
     less_has both.one both.other kind (value_of leaves left words) (value_of leaves right words) both.made_is
     (value_has leaves left words both.one both.left_is) (value_has leaves right words both.other both.right_is)
 value_has leaves (typed.product left right) words kind gives =
-    let both = both_are multiplied (kind_of_typed leaves left) (kind_of_typed leaves right) kind gives in
+    let both = both_are multiplied (kind_in leaves left) (kind_in leaves right) kind gives in
     times_has both.one both.other kind (value_of leaves left words) (value_of leaves right words) both.made_is
     (value_has leaves left words both.one both.left_is) (value_has leaves right words both.other both.right_is)
 value_has leaves (typed.minus of) words kind gives =
-    let from = from_is negated (kind_of_typed leaves of) kind gives in
+    let from = from_is negated (kind_in leaves of) kind gives in
     negative_has from.one kind (value_of leaves of words) from.made_is (value_has leaves of words from.one from.of_is)
 
 -- ---- the limits
@@ -242,7 +243,7 @@ negated_is : (one made : Kind) → negated one ≡ Ok made → made ≡ one
 negated_is (Number one) made gives = cc
 negated_is one made gives = cc
 
-leaf_within : (found : Option Leaf) (kind : Kind) → kind_of_leaf found ≡ Ok kind → IsTrue (is_within kind)
+leaf_within : (found : Option Leaf) (kind : Kind) → leaf_kind found ≡ Ok kind → IsTrue (is_within kind)
 leaf_within None kind gives = cc
 leaf_within (Some leaf) kind gives = moves kind (kind_of leaf.kind) (cc) (column_within leaf.kind)
 
@@ -251,18 +252,18 @@ day_within true kind gives = moves kind (Day DAY_BOUND) (cc) (search rules)
 day_within false kind gives = cc
 
 -- what an expression is is within the limits
-pub kind_within : (leaves : List Leaf) (tree : TypedTree) (kind : Kind) → kind_of_typed leaves tree ≡ Ok kind → IsTrue (is_within kind)
+pub kind_within : (leaves : List Leaf) (tree : TypedTree) (kind : Kind) → kind_in leaves tree ≡ Ok kind → IsTrue (is_within kind)
 kind_within leaves (typed.number units scale) kind gives = bounded_within (Number (extent scale units)) kind gives
 kind_within leaves (typed.day days) kind gives = day_within (nat_le (unsigned_abs days) DAY_BOUND) kind gives
 kind_within leaves (typed.text bytes) kind gives = moves kind Text (cc) (search rules)
 kind_within leaves (typed.leaf place) kind gives = leaf_within (slice_get leaves place) kind gives
 kind_within leaves (typed.sum left right) kind gives =
-    let both = both_are added (kind_of_typed leaves left) (kind_of_typed leaves right) kind gives in added_within both.one both.other kind both.made_is
+    let both = both_are added (kind_in leaves left) (kind_in leaves right) kind gives in added_within both.one both.other kind both.made_is
 kind_within leaves (typed.difference left right) kind gives =
-    let both = both_are added (kind_of_typed leaves left) (kind_of_typed leaves right) kind gives in added_within both.one both.other kind both.made_is
+    let both = both_are added (kind_in leaves left) (kind_in leaves right) kind gives in added_within both.one both.other kind both.made_is
 kind_within leaves (typed.product left right) kind gives =
-    let both = both_are multiplied (kind_of_typed leaves left) (kind_of_typed leaves right) kind gives in multiplied_within both.one both.other kind both.made_is
+    let both = both_are multiplied (kind_in leaves left) (kind_in leaves right) kind gives in multiplied_within both.one both.other kind both.made_is
 kind_within leaves (typed.minus of) kind gives =
-    let from = from_is negated (kind_of_typed leaves of) kind gives in
+    let from = from_is negated (kind_in leaves of) kind gives in
     moves kind from.one (negated_is from.one kind from.made_is) (kind_within leaves of from.one from.of_is)
 

@@ -16,7 +16,8 @@ use Rattle.smc_plan.specs.declared.kind.Kind.TheVariants.{Number, Day, Text}
 use Rattle.smc_plan.specs.declared.kind.TheConstants.{MAX_SCALE, SIZE_LIMIT}
 use Rattle.smc_plan.specs.declared.leaf.Leaf.{Leaf}
 use Rattle.smc_meaning.specs.Values.{Cell, number, day, units_at, value_of}
-use Rattle.smc_meaning.specs.Kinds.{HasExtent, IsDay, IsNumber, IsOf, kind_of_both, kind_of_leaf, kind_of_typed}
+use Rattle.smc_plan.specs.Kinds.{leaf_kind, kind_in}
+use Rattle.smc_meaning.specs.Kinds.{HasExtent, IsDay, IsNumber, IsOf, kind_of_both}
 use Rattle.smc_meaning.specs.Decimals.{CanAdd, CanMultiply, decimal_cell, larger_of, size_at}
 use Rattle.smc_meaning.specs.declared.decimal.Decimal.{Decimal}
 use Rattle.smc_meaning.proofs.BoundLaws.{both_are, bounded_is, from_is, kind_within, size-less, size-plus, size-units_at, value_has}
@@ -25,7 +26,7 @@ use Rattle.smc_meaning.proofs.BoundLaws.{both_are, bounded_is, from_is, kind_wit
 
 -- a number that was found to be an expression's value has the extent of the expression
 pub decimal_has : (leaves : List Leaf) (tree : TypedTree) (words : List ℕ) (limits : Extent) (found : Decimal)
-    → kind_of_typed leaves tree ≡ Ok (Number limits) → value_of leaves tree words ≡ decimal_cell found → HasExtent limits found.units found.scale
+    → kind_in leaves tree ≡ Ok (Number limits) → value_of leaves tree words ≡ decimal_cell found → HasExtent limits found.units found.scale
 decimal_has leaves tree words limits found kind value =
     subst (λ (c : Cell). IsOf (Number limits) c) value (value_has leaves tree words (Number limits) kind)
 
@@ -37,7 +38,7 @@ pub record IsLimited (limits : Extent) : Type 0 where
 pub limited : (limits : Extent) → IsTrue (is_within (Number limits)) → IsLimited limits
 limited limits within = record { few = grind (arith, nat_tests, within); small = grind (arith, nat_tests, within) }
 
-pub number_limited : (leaves : List Leaf) (tree : TypedTree) (limits : Extent) → kind_of_typed leaves tree ≡ Ok (Number limits) → IsLimited limits
+pub number_limited : (leaves : List Leaf) (tree : TypedTree) (limits : Extent) → kind_in leaves tree ≡ Ok (Number limits) → IsLimited limits
 number_limited leaves tree limits kind = limited limits (kind_within leaves tree (Number limits) kind)
 
 -- ---- sums of numbers
@@ -93,10 +94,10 @@ added_numbers one other left right left_has right_has within =
 
 -- the values of both sides can be added
 pub can_add : (leaves : List Leaf) (left right : TypedTree) (words : List ℕ) (limits : Extent) (one other : Decimal)
-    → kind_of_both added (kind_of_typed leaves left) (kind_of_typed leaves right) ≡ Ok (Number limits)
+    → kind_of_both added (kind_in leaves left) (kind_in leaves right) ≡ Ok (Number limits)
     → value_of leaves left words ≡ decimal_cell one → value_of leaves right words ≡ decimal_cell other → CanAdd one other
 can_add leaves left right words limits one other kind left_is right_is =
-    let both = numbers_both (kind_of_typed leaves left) (kind_of_typed leaves right) limits kind in
+    let both = numbers_both (kind_in leaves left) (kind_in leaves right) limits kind in
     added_numbers both.one both.other one other
     (decimal_has leaves left words both.one one both.left_is left_is) (decimal_has leaves right words both.other other both.right_is right_is) both.within
 
@@ -138,43 +139,43 @@ multiplied_numbers one other left right left_has right_has within =
 
 -- the values of both sides can be multiplied
 pub can_multiply : (leaves : List Leaf) (left right : TypedTree) (words : List ℕ) (made : Kind) (one other : Decimal)
-    → kind_of_both multiplied (kind_of_typed leaves left) (kind_of_typed leaves right) ≡ Ok made
+    → kind_of_both multiplied (kind_in leaves left) (kind_in leaves right) ≡ Ok made
     → value_of leaves left words ≡ decimal_cell one → value_of leaves right words ≡ decimal_cell other → CanMultiply one other
 can_multiply leaves left right words made one other kind left_is right_is =
-    let both = factors_both (kind_of_typed leaves left) (kind_of_typed leaves right) made kind in
+    let both = factors_both (kind_in leaves left) (kind_in leaves right) made kind in
     multiplied_numbers both.one both.other one other
     (decimal_has leaves left words both.one one both.left_is left_is) (decimal_has leaves right words both.other other both.right_is right_is) both.within
 
 -- ---- operands, as the code wants them
 
 pub sum_left : (leaves : List Leaf) (left right : TypedTree) (limits : Extent)
-    → kind_of_both added (kind_of_typed leaves left) (kind_of_typed leaves right) ≡ Ok (Number limits) → IsNumber leaves left
+    → kind_of_both added (kind_in leaves left) (kind_in leaves right) ≡ Ok (Number limits) → IsNumber leaves left
 sum_left leaves left right limits kind =
-    let both = numbers_both (kind_of_typed leaves left) (kind_of_typed leaves right) limits kind in record { extent = both.one; kind_is = both.left_is }
+    let both = numbers_both (kind_in leaves left) (kind_in leaves right) limits kind in record { extent = both.one; kind_is = both.left_is }
 
 pub sum_right : (leaves : List Leaf) (left right : TypedTree) (limits : Extent)
-    → kind_of_both added (kind_of_typed leaves left) (kind_of_typed leaves right) ≡ Ok (Number limits) → IsNumber leaves right
+    → kind_of_both added (kind_in leaves left) (kind_in leaves right) ≡ Ok (Number limits) → IsNumber leaves right
 sum_right leaves left right limits kind =
-    let both = numbers_both (kind_of_typed leaves left) (kind_of_typed leaves right) limits kind in record { extent = both.other; kind_is = both.right_is }
+    let both = numbers_both (kind_in leaves left) (kind_in leaves right) limits kind in record { extent = both.other; kind_is = both.right_is }
 
 pub product_left : (leaves : List Leaf) (left right : TypedTree) (made : Kind)
-    → kind_of_both multiplied (kind_of_typed leaves left) (kind_of_typed leaves right) ≡ Ok made → IsNumber leaves left
+    → kind_of_both multiplied (kind_in leaves left) (kind_in leaves right) ≡ Ok made → IsNumber leaves left
 product_left leaves left right made kind =
-    let both = factors_both (kind_of_typed leaves left) (kind_of_typed leaves right) made kind in record { extent = both.one; kind_is = both.left_is }
+    let both = factors_both (kind_in leaves left) (kind_in leaves right) made kind in record { extent = both.one; kind_is = both.left_is }
 
 pub product_right : (leaves : List Leaf) (left right : TypedTree) (made : Kind)
-    → kind_of_both multiplied (kind_of_typed leaves left) (kind_of_typed leaves right) ≡ Ok made → IsNumber leaves right
+    → kind_of_both multiplied (kind_in leaves left) (kind_in leaves right) ≡ Ok made → IsNumber leaves right
 product_right leaves left right made kind =
-    let both = factors_both (kind_of_typed leaves left) (kind_of_typed leaves right) made kind in record { extent = both.other; kind_is = both.right_is }
+    let both = factors_both (kind_in leaves left) (kind_in leaves right) made kind in record { extent = both.other; kind_is = both.right_is }
 
 negated_number : (kind made : Kind) (of : Result Kind PlanFault) → of ≡ Ok kind → negated kind ≡ Ok made → (limits : Extent) × (of ≡ Ok (Number limits))
 negated_number (Number limits) made of is gives = (limits, is)
 negated_number kind made of is gives = cc
 
-pub minus_of : (leaves : List Leaf) (of : TypedTree) (made : Kind) → kind_of_typed leaves (typed.minus of) ≡ Ok made → IsNumber leaves of
+pub minus_of : (leaves : List Leaf) (of : TypedTree) (made : Kind) → kind_in leaves (typed.minus of) ≡ Ok made → IsNumber leaves of
 minus_of leaves of made kind =
-    let from = from_is negated (kind_of_typed leaves of) made kind in
-    let number = negated_number from.one made (kind_of_typed leaves of) from.of_is from.made_is in
+    let from = from_is negated (kind_in leaves of) made kind in
+    let number = negated_number from.one made (kind_in leaves of) from.of_is from.made_is in
     record { extent = number.0; kind_is = number.1 }
 
 -- a number is below the limit
@@ -232,14 +233,14 @@ days_both left right bound gives =
     days_added both.one both.other left right bound both.left_is both.right_is both.made_is
 
 pub day_left : (leaves : List Leaf) (left right : TypedTree) (bound : ℕ)
-    → kind_of_both added (kind_of_typed leaves left) (kind_of_typed leaves right) ≡ Ok (Day bound) → IsDay leaves left
+    → kind_of_both added (kind_in leaves left) (kind_in leaves right) ≡ Ok (Day bound) → IsDay leaves left
 day_left leaves left right bound kind =
-    let both = days_both (kind_of_typed leaves left) (kind_of_typed leaves right) bound kind in record { bound = both.from; kind_is = both.left_is }
+    let both = days_both (kind_in leaves left) (kind_in leaves right) bound kind in record { bound = both.from; kind_is = both.left_is }
 
 pub day_right : (leaves : List Leaf) (left right : TypedTree) (bound : ℕ)
-    → kind_of_both added (kind_of_typed leaves left) (kind_of_typed leaves right) ≡ Ok (Day bound) → IsNumber leaves right
+    → kind_of_both added (kind_in leaves left) (kind_in leaves right) ≡ Ok (Day bound) → IsNumber leaves right
 day_right leaves left right bound kind =
-    let both = days_both (kind_of_typed leaves left) (kind_of_typed leaves right) bound kind in record { extent = both.days; kind_is = both.right_is }
+    let both = days_both (kind_in leaves left) (kind_in leaves right) bound kind in record { extent = both.days; kind_is = both.right_is }
 
 bound_small : (bound : ℕ) → IsTrue (is_within (Day bound)) → bound < SIZE_LIMIT
 bound_small bound within = grind (arith, nat_tests, within)
@@ -254,13 +255,13 @@ day_small leaves of words found is value =
 
 -- a day that is moved by so many days is below the limit
 pub later_small : (leaves : List Leaf) (left right : TypedTree) (words : List ℕ) (bound : ℕ) (from : ℤ) (days : Decimal)
-    → kind_of_both added (kind_of_typed leaves left) (kind_of_typed leaves right) ≡ Ok (Day bound)
+    → kind_of_both added (kind_in leaves left) (kind_in leaves right) ≡ Ok (Day bound)
     → value_of leaves left words ≡ day from → value_of leaves right words ≡ decimal_cell days → unsigned_abs (from +ℤ days.units) < SIZE_LIMIT
 later_small leaves left right words bound from days kind left_is right_is =
     day_small leaves (typed.sum left right) words (from +ℤ days.units) (record { bound = bound; kind_is = kind }) (rw (left_is, right_is) refl)
 
 pub earlier_small : (leaves : List Leaf) (left right : TypedTree) (words : List ℕ) (bound : ℕ) (from : ℤ) (days : Decimal)
-    → kind_of_both added (kind_of_typed leaves left) (kind_of_typed leaves right) ≡ Ok (Day bound)
+    → kind_of_both added (kind_in leaves left) (kind_in leaves right) ≡ Ok (Day bound)
     → value_of leaves left words ≡ day from → value_of leaves right words ≡ decimal_cell days → unsigned_abs (from -ℤ days.units) < SIZE_LIMIT
 earlier_small leaves left right words bound from days kind left_is right_is =
     day_small leaves (typed.difference left right) words (from -ℤ days.units) (record { bound = bound; kind_is = kind }) (rw (left_is, right_is) refl)
@@ -273,11 +274,11 @@ pub record IsLeaf (leaves : List Leaf) (place : ℕ) (kind : Kind) : Type 0 wher
   pub found : slice_get leaves place ≡ Some leaf
   pub kind_is : kind_of leaf.kind ≡ kind
 
-found_leaf : (found : Option Leaf) (kind : Kind) (leaves : List Leaf) (place : ℕ) → slice_get leaves place ≡ found → kind_of_leaf found ≡ Ok kind → IsLeaf leaves place kind
+found_leaf : (found : Option Leaf) (kind : Kind) (leaves : List Leaf) (place : ℕ) → slice_get leaves place ≡ found → leaf_kind found ≡ Ok kind → IsLeaf leaves place kind
 found_leaf None kind leaves place is gives = cc
 found_leaf (Some leaf) kind leaves place is gives = record { leaf = leaf; found = is; kind_is = cc }
 
-pub leaf_is : (leaves : List Leaf) (place : ℕ) (kind : Kind) → kind_of_leaf (slice_get leaves place) ≡ Ok kind → IsLeaf leaves place kind
+pub leaf_is : (leaves : List Leaf) (place : ℕ) (kind : Kind) → leaf_kind (slice_get leaves place) ≡ Ok kind → IsLeaf leaves place kind
 leaf_is leaves place kind gives = found_leaf (slice_get leaves place) kind leaves place refl gives
 
 -- the column of a number

@@ -12,9 +12,10 @@ use Rattle.smc_plan.specs.declared.kind.Kind.{Kind}
 use Rattle.smc_plan.specs.declared.kind.Kind.TheVariants.{Number, Day, Text}
 use Rattle.smc_plan.specs.declared.kind.TheConstants.{DAY_BOUND, MAX_SCALE, SIZE_LIMIT}
 use Rattle.smc_plan.specs.declared.leaf.Leaf.{Leaf}
-use Rattle.smc_meaning.specs.Conditions.{CanCompare}
+use Rattle.smc_plan.specs.Kinds.{AreCompared}
 use Rattle.smc_meaning.specs.Values.{Cell, value_of}
-use Rattle.smc_meaning.specs.Kinds.{HasExtent, IsDay, IsNumber, IsText, kind_of_leaf, kind_of_typed, sort_of, sort_of_kind, sort_of_leaf}
+use Rattle.smc_plan.specs.Kinds.{leaf_kind, kind_in}
+use Rattle.smc_meaning.specs.Kinds.{HasExtent, IsDay, IsNumber, IsText, sort_of, sort_of_kind, sort_of_leaf}
 use Rattle.smc_meaning.specs.declared.value.Sort.{Sort}
 use Rattle.smc_meaning.specs.declared.value.Sort.TheVariants.{Number as OfNumber, Day as OfDay, Text as OfText}
 use Rattle.smc_meaning.specs.Decimals.{CanMeet, decimal_cell, larger_of, size_at}
@@ -44,7 +45,7 @@ sort_of_negated : (one made : Kind) → negated one ≡ Ok made → OfNumber ≡
 sort_of_negated (Number one) made gives = let same : made ≡ Number one = cc in ap sort_of_kind (sym same)
 sort_of_negated one made gives = cc
 
-sort_of_found : (found : Option Leaf) (kind : Kind) → kind_of_leaf found ≡ Ok kind → sort_of_leaf found ≡ sort_of_kind kind
+sort_of_found : (found : Option Leaf) (kind : Kind) → leaf_kind found ≡ Ok kind → sort_of_leaf found ≡ sort_of_kind kind
 sort_of_found None kind gives = cc
 sort_of_found (Some leaf) kind gives = let same : kind_of leaf.kind ≡ kind = cc in ap sort_of_kind same
 
@@ -52,22 +53,22 @@ sort_of_days : (test : Bool) (kind : Kind) → cond test (Ok (Day DAY_BOUND)) (E
 sort_of_days true kind gives = let same : Day DAY_BOUND ≡ kind = cc in ap sort_of_kind same
 sort_of_days false kind gives = cc
 
-pub sort_is : (leaves : List Leaf) (tree : TypedTree) (kind : Kind) → kind_of_typed leaves tree ≡ Ok kind → sort_of leaves tree ≡ sort_of_kind kind
+pub sort_is : (leaves : List Leaf) (tree : TypedTree) (kind : Kind) → kind_in leaves tree ≡ Ok kind → sort_of leaves tree ≡ sort_of_kind kind
 sort_is leaves (typed.number units scale) kind gives = sort_of_bounded (Number (extent scale units)) kind gives
 sort_is leaves (typed.day days) kind gives = sort_of_days (nat_le (unsigned_abs days) DAY_BOUND) kind gives
 sort_is leaves (typed.text bytes) kind gives = let same : Text ≡ kind = cc in ap sort_of_kind same
 sort_is leaves (typed.leaf place) kind gives = sort_of_found (slice_get leaves place) kind gives
 sort_is leaves (typed.sum left right) kind gives =
-    let both = both_are added (kind_of_typed leaves left) (kind_of_typed leaves right) kind gives in
+    let both = both_are added (kind_in leaves left) (kind_in leaves right) kind gives in
     sort_is leaves left both.one both.left_is ∙ sort_of_added both.one both.other kind both.made_is
 sort_is leaves (typed.difference left right) kind gives =
-    let both = both_are added (kind_of_typed leaves left) (kind_of_typed leaves right) kind gives in
+    let both = both_are added (kind_in leaves left) (kind_in leaves right) kind gives in
     sort_is leaves left both.one both.left_is ∙ sort_of_added both.one both.other kind both.made_is
 sort_is leaves (typed.product left right) kind gives =
-    let both = both_are multiplied (kind_of_typed leaves left) (kind_of_typed leaves right) kind gives in
+    let both = both_are multiplied (kind_in leaves left) (kind_in leaves right) kind gives in
     sort_of_multiplied both.one both.other kind both.made_is
 sort_is leaves (typed.minus of) kind gives =
-    let from = from_is negated (kind_of_typed leaves of) kind gives in sort_of_negated from.one kind from.made_is
+    let from = from_is negated (kind_in leaves of) kind gives in sort_of_negated from.one kind from.made_is
 
 -- ---- sides
 
@@ -108,31 +109,31 @@ text_sides Text other comparable is = cc
 text_sides (Number bound) other comparable is = cc
 text_sides (Day bound) other comparable is = cc
 
-first_sort : (leaves : List Leaf) (left right : TypedTree) (sort : Sort) (can : CanCompare leaves left right) → sort_of leaves left ≡ sort → sort_of_kind can.one ≡ sort
-first_sort leaves left right sort can is = sym (sort_is leaves left can.one can.left_is) ∙ is
+first_sort : (leaves : List Leaf) (left right : TypedTree) (sort : Sort) (can : AreCompared leaves left right) → sort_of leaves left ≡ sort → sort_of_kind can.left ≡ sort
+first_sort leaves left right sort can is = sym (sort_is leaves left can.left can.left_is) ∙ is
 
-numbers : (leaves : List Leaf) (left right : TypedTree) (can : CanCompare leaves left right) → sort_of leaves left ≡ OfNumber → NumberSides can.one can.other
-numbers leaves left right can is = number_sides can.one can.other can.comparable (first_sort leaves left right OfNumber can is)
+numbers : (leaves : List Leaf) (left right : TypedTree) (can : AreCompared leaves left right) → sort_of leaves left ≡ OfNumber → NumberSides can.left can.right
+numbers leaves left right can is = number_sides can.left can.right can.comparable (first_sort leaves left right OfNumber can is)
 
-pub left_number : (leaves : List Leaf) (left right : TypedTree) → CanCompare leaves left right → sort_of leaves left ≡ OfNumber → IsNumber leaves left
+pub left_number : (leaves : List Leaf) (left right : TypedTree) → AreCompared leaves left right → sort_of leaves left ≡ OfNumber → IsNumber leaves left
 left_number leaves left right can is = let sides = numbers leaves left right can is in record { extent = sides.left; kind_is = can.left_is ∙ ap Ok sides.one_is }
 
-pub right_number : (leaves : List Leaf) (left right : TypedTree) → CanCompare leaves left right → sort_of leaves left ≡ OfNumber → IsNumber leaves right
+pub right_number : (leaves : List Leaf) (left right : TypedTree) → AreCompared leaves left right → sort_of leaves left ≡ OfNumber → IsNumber leaves right
 right_number leaves left right can is = let sides = numbers leaves left right can is in record { extent = sides.right; kind_is = can.right_is ∙ ap Ok sides.other_is }
 
-pub left_day : (leaves : List Leaf) (left right : TypedTree) → CanCompare leaves left right → sort_of leaves left ≡ OfDay → IsDay leaves left
+pub left_day : (leaves : List Leaf) (left right : TypedTree) → AreCompared leaves left right → sort_of leaves left ≡ OfDay → IsDay leaves left
 left_day leaves left right can is =
-    let sides = day_sides can.one can.other can.comparable (first_sort leaves left right OfDay can is) in record { bound = sides.left; kind_is = can.left_is ∙ ap Ok sides.one_is }
+    let sides = day_sides can.left can.right can.comparable (first_sort leaves left right OfDay can is) in record { bound = sides.left; kind_is = can.left_is ∙ ap Ok sides.one_is }
 
-pub right_day : (leaves : List Leaf) (left right : TypedTree) → CanCompare leaves left right → sort_of leaves left ≡ OfDay → IsDay leaves right
+pub right_day : (leaves : List Leaf) (left right : TypedTree) → AreCompared leaves left right → sort_of leaves left ≡ OfDay → IsDay leaves right
 right_day leaves left right can is =
-    let sides = day_sides can.one can.other can.comparable (first_sort leaves left right OfDay can is) in record { bound = sides.right; kind_is = can.right_is ∙ ap Ok sides.other_is }
+    let sides = day_sides can.left can.right can.comparable (first_sort leaves left right OfDay can is) in record { bound = sides.right; kind_is = can.right_is ∙ ap Ok sides.other_is }
 
-pub left_text : (leaves : List Leaf) (left right : TypedTree) → CanCompare leaves left right → sort_of leaves left ≡ OfText → IsText leaves left
-left_text leaves left right can is = can.left_is ∙ ap Ok (text_sides can.one can.other can.comparable (first_sort leaves left right OfText can is)).one_is
+pub left_text : (leaves : List Leaf) (left right : TypedTree) → AreCompared leaves left right → sort_of leaves left ≡ OfText → IsText leaves left
+left_text leaves left right can is = can.left_is ∙ ap Ok (text_sides can.left can.right can.comparable (first_sort leaves left right OfText can is)).one_is
 
-pub right_text : (leaves : List Leaf) (left right : TypedTree) → CanCompare leaves left right → sort_of leaves left ≡ OfText → IsText leaves right
-right_text leaves left right can is = can.right_is ∙ ap Ok (text_sides can.one can.other can.comparable (first_sort leaves left right OfText can is)).other_is
+pub right_text : (leaves : List Leaf) (left right : TypedTree) → AreCompared leaves left right → sort_of leaves left ≡ OfText → IsText leaves right
+right_text leaves left right can is = can.right_is ∙ ap Ok (text_sides can.left can.right can.comparable (first_sort leaves left right OfText can is)).other_is
 
 -- ---- numbers that meet
 
@@ -160,13 +161,13 @@ narrow_too : (one other first second : Kind) → one ≡ first → other ≡ sec
 narrow_too one other first second is also narrow = cc
 
 -- the values of two sides that are numbers can be compared
-pub can_meet : (leaves : List Leaf) (left right : TypedTree) (words other_words : List ℕ) (one other : Decimal) → CanCompare leaves left right → sort_of leaves left ≡ OfNumber
+pub can_meet : (leaves : List Leaf) (left right : TypedTree) (words other_words : List ℕ) (one other : Decimal) → AreCompared leaves left right → sort_of leaves left ≡ OfNumber
     → value_of leaves left words ≡ decimal_cell one → value_of leaves right other_words ≡ decimal_cell other → CanMeet one other
 can_meet leaves left right words other_words one other can is left_is right_is =
     let sides = numbers leaves left right can is in
     let first = can.left_is ∙ ap Ok sides.one_is in
     let second = can.right_is ∙ ap Ok sides.other_is in
-    let narrow : are_narrow (Number sides.left) (Number sides.right) ≡ true = narrow_too can.one can.other (Number sides.left) (Number sides.right) sides.one_is sides.other_is can.narrow in
+    let narrow : are_narrow (Number sides.left) (Number sides.right) ≡ true = narrow_too can.left can.right (Number sides.left) (Number sides.right) sides.one_is sides.other_is can.narrow in
     meeting sides.left sides.right one other
     (decimal_has leaves left words sides.left one first left_is) (decimal_has leaves right other_words sides.right other second right_is)
     (number_limited leaves left sides.left first) (number_limited leaves right sides.right second) (narrow_is sides.left sides.right narrow)
@@ -182,12 +183,22 @@ bound-same limits =
 self_narrow : (limits : Extent) → limits.bound < SIZE_LIMIT → are_narrow (Number limits) (Number limits) ≡ true
 self_narrow limits small = let same = bound-same limits in grind (arith, nat_tests)
 
-self_compared : (leaves : List Leaf) (tree : TypedTree) (kind : Kind) → kind_of_typed leaves tree ≡ Ok kind → (is_comparable kind kind ≡ true) × (are_narrow kind kind ≡ true)
+self_compared : (leaves : List Leaf) (tree : TypedTree) (kind : Kind) → kind_in leaves tree ≡ Ok kind → (is_comparable kind kind ≡ true) × (are_narrow kind kind ≡ true)
 self_compared leaves tree (Number limits) is = (refl, self_narrow limits (number_limited leaves tree limits is).small)
 self_compared leaves tree (Day bound) is = (refl, refl)
 self_compared leaves tree Text is = (refl, refl)
 
-pub self_can : (leaves : List Leaf) (tree : TypedTree) (kind : Kind) → kind_of_typed leaves tree ≡ Ok kind → CanCompare leaves tree tree
+pub self_can : (leaves : List Leaf) (tree : TypedTree) (kind : Kind) → kind_in leaves tree ≡ Ok kind → AreCompared leaves tree tree
 self_can leaves tree kind is =
     let compared = self_compared leaves tree kind is in
-    record { one = kind; other = kind; left_is = is; right_is = is; comparable = compared.0; narrow = compared.1 }
+    record { left = kind; right = kind; left_is = is; right_is = is; comparable = compared.0; narrow = compared.1 }
+
+-- an expression of some kind is what its sort says
+pub own_number : (leaves : List Leaf) (tree : TypedTree) (kind : Kind) → kind_in leaves tree ≡ Ok kind → sort_of leaves tree ≡ OfNumber → IsNumber leaves tree
+own_number leaves tree kind is sort = left_number leaves tree tree (self_can leaves tree kind is) sort
+
+pub own_day : (leaves : List Leaf) (tree : TypedTree) (kind : Kind) → kind_in leaves tree ≡ Ok kind → sort_of leaves tree ≡ OfDay → IsDay leaves tree
+own_day leaves tree kind is sort = left_day leaves tree tree (self_can leaves tree kind is) sort
+
+pub own_text : (leaves : List Leaf) (tree : TypedTree) (kind : Kind) → kind_in leaves tree ≡ Ok kind → sort_of leaves tree ≡ OfText → IsText leaves tree
+own_text leaves tree kind is sort = left_text leaves tree tree (self_can leaves tree kind is) sort

@@ -7,7 +7,7 @@ use Rattle.smc_folds.specs.Kinds as folds
 use Rattle.smc_query.specs.Trees.{Aggregate, total, average, least, greatest}
 use Rattle.smc_plan.specs.Outputs.{OutputTree, count, aggregate, fold as fold_of}
 use Rattle.smc_plan.specs.Planned.{Planned}
-use Rattle.smc_plan.specs.Typed.{KindedTree, leaf}
+use Rattle.smc_plan.specs.Typed.{KindedTree, TypedTree, leaf}
 use Rattle.smc_plan.specs.declared.kind.Kind.{Kind}
 use Rattle.smc_plan.specs.declared.kind.Kind.TheVariants.{Number, Day, Text}
 use Rattle.smc_plan.specs.declared.kind.TheConstants.{HUNDREDTHS}
@@ -71,8 +71,8 @@ units_of (day days) = days
 units_of (text bytes) = pos 0
 
 -- the values of an expression in the rows of a group
-abbrev pub values_of : List Leaf → KindedTree → List (List ℕ) → List Cell
-values_of leaves of rows = map (λ words. value_of leaves of.typed words) rows
+abbrev pub values_of : List Leaf → TypedTree → List (List ℕ) → List Cell
+values_of leaves of rows = map (λ words. value_of leaves of words) rows
 
 -- the units of these values together
 abbrev pub sum_of : List Cell → ℤ
@@ -132,5 +132,5 @@ folded kinds name scale cells =
 -- what an output column shows of a group
 abbrev pub shown : List folds.Kind → List Leaf → OutputTree → List (List ℕ) → Option Cell
 shown kinds leaves count rows = Some (number (pos (length rows)) 0)
-shown kinds leaves (aggregate call of) rows = aggregate_of call (scale_in of.kind) (values_of leaves of rows)
-shown kinds leaves (fold_of name of) rows = folded kinds name (scale_in of.kind) (values_of leaves of rows)
+shown kinds leaves (aggregate call of) rows = aggregate_of call (scale_in of.kind) (values_of leaves of.typed rows)
+shown kinds leaves (fold_of name of) rows = folded kinds name (scale_in of.kind) (values_of leaves of.typed rows)

@@ -2,6 +2,7 @@
 use Rattle.std.specs.Prelude.{◌≡◌, ⊤, ℕ, ◌≤◌, ℤ, unsigned_abs, nat_le, if◌then◌else◌, List, Option, None, Some, slice_get, Result, Ok, Err}
 use Rattle.smc_plan.specs.Answers.{and_then}
 use Rattle.smc_plan.specs.Bounds.{added, bounded, extent, kind_of, multiplied, negated}
+use Rattle.smc_plan.specs.Kinds.{kind_in}
 use Rattle.smc_plan.specs.Typed as typed
 use Rattle.smc_plan.specs.Typed.{TypedTree}
 use Rattle.smc_plan.specs.declared.fault.PlanFault.{PlanFault}
@@ -15,48 +16,28 @@ use Rattle.smc_meaning.specs.declared.value.Sort.{Sort}
 use Rattle.smc_meaning.specs.declared.value.Sort.TheVariants.{Number as OfNumber, Day as OfDay, Text as OfText}
 use Rattle.smc_meaning.specs.Values.{Cell, number, day, text}
 
--- what the leaf at a place is, where there is one
-abbrev pub kind_of_leaf : Option Leaf → Result Kind PlanFault
-kind_of_leaf None = Err Types
-kind_of_leaf (Some leaf) = Ok (kind_of leaf.kind)
-
--- what a day of the calendar is
-abbrev pub kind_of_day : ℤ → Result Kind PlanFault
-kind_of_day days = if nat_le (unsigned_abs days) DAY_BOUND then Ok (Day DAY_BOUND) else Err TooWide
-
 -- what two operands make
 abbrev pub kind_of_both : (Kind → Kind → Result Kind PlanFault) → Result Kind PlanFault → Result Kind PlanFault → Result Kind PlanFault
 kind_of_both made left right = and_then left (λ one. and_then right (λ other. made one other))
 
--- what an expression is, by what its operands are
-abbrev pub kind_of_typed : List Leaf → TypedTree → Result Kind PlanFault
-kind_of_typed leaves (typed.number units scale) = bounded (Number (extent scale units))
-kind_of_typed leaves (typed.day days) = kind_of_day days
-kind_of_typed leaves (typed.text bytes) = Ok Text
-kind_of_typed leaves (typed.leaf place) = kind_of_leaf (slice_get leaves place)
-kind_of_typed leaves (typed.sum left right) = kind_of_both added (kind_of_typed leaves left) (kind_of_typed leaves right)
-kind_of_typed leaves (typed.difference left right) = kind_of_both added (kind_of_typed leaves left) (kind_of_typed leaves right)
-kind_of_typed leaves (typed.product left right) = kind_of_both multiplied (kind_of_typed leaves left) (kind_of_typed leaves right)
-kind_of_typed leaves (typed.minus of) = and_then (kind_of_typed leaves of) negated
-
 -- the expression is a number, a day or a text
-pub record IsTyped (leaves : List Leaf) (typed : TypedTree) : Type 0 where
+pub record HasKind (leaves : List Leaf) (typed : TypedTree) : Type 0 where
   pub kind : Kind
-  pub kind_is : kind_of_typed leaves typed ≡ Ok kind
+  pub kind_is : kind_in leaves typed ≡ Ok kind
 
 -- the expression is a number
 pub record IsNumber (leaves : List Leaf) (typed : TypedTree) : Type 0 where
   pub extent : Extent
-  pub kind_is : kind_of_typed leaves typed ≡ Ok (Number extent)
+  pub kind_is : kind_in leaves typed ≡ Ok (Number extent)
 
 -- the expression is a day
 pub record IsDay (leaves : List Leaf) (typed : TypedTree) : Type 0 where
   pub bound : ℕ
-  pub kind_is : kind_of_typed leaves typed ≡ Ok (Day bound)
+  pub kind_is : kind_in leaves typed ≡ Ok (Day bound)
 
 -- the expression is a text
 abbrev pub IsText : List Leaf → TypedTree → Type 0
-IsText leaves typed = kind_of_typed leaves typed ≡ Ok Text
+IsText leaves typed = kind_in leaves typed ≡ Ok Text
 
 -- so many units at a scale are a number of this extent
 pub record HasExtent (number : Extent) (units : ℤ) (scale : ℕ) : Type 0 where

@@ -10,8 +10,7 @@ pub mod Orders
 pub mod Texts
 pub mod Comparing
 pub mod Kept
-pub mod Conditions
-pub mod Sound
+pub mod Shown
 pub mod Sorting
 pub mod Groups
 pub mod Answers

@@ -3,8 +3,8 @@ ghost use Rattle.std.specs.Prelude.{◌≡◌, Ok, length};
 ghost use Rattle.smc_plan.specs.Leaves.{leaves_words};
 ghost use Rattle.smc_plan.specs.Typed.{typed_tree};
 ghost use Rattle.smc_meaning.specs.Comparing.{compare};
-ghost use Rattle.smc_meaning.specs.Conditions.{CanCompare};
-ghost use Rattle.smc_meaning.specs.Kinds.{IsTyped};
+ghost use Rattle.smc_plan.specs.Kinds.{AreCompared};
+ghost use Rattle.smc_meaning.specs.Kinds.{HasKind};
 ghost use Rattle.smc_meaning.specs.Values.{value_of};
 
 use crate::Sort;
@@ -22,7 +22,7 @@ pub(crate) fn compare_at(
 ) -> Ordering
     requires words { length row.now ≡ leaves_words leaves.now }
     requires other_words { length other_row.now ≡ leaves_words leaves.now }
-    requires sides { CanCompare leaves.now (typed_tree left.now) (typed_tree right.now) }
+    requires sides { AreCompared leaves.now (typed_tree left.now) (typed_tree right.now) }
     ensures { result ≡ compare (value_of leaves.now (typed_tree left.now) row.now) (value_of leaves.now (typed_tree right.now) other_row.now) }
 {
     match sort_at(leaves, left) {
@@ -36,7 +36,7 @@ pub(crate) fn compare_at(
 pub fn compare_rows(leaves: &[Leaf], expr: &Typed, row: &[u64], other_row: &[u64]) -> Ordering
     requires words { length row.now ≡ leaves_words leaves.now }
     requires other_words { length other_row.now ≡ leaves_words leaves.now }
-    requires typed { IsTyped leaves.now (typed_tree expr.now) }
+    requires typed { HasKind leaves.now (typed_tree expr.now) }
     ensures { result ≡ compare (value_of leaves.now (typed_tree expr.now) row.now) (value_of leaves.now (typed_tree expr.now) other_row.now) }
 {
     compare_at(leaves, expr, row, expr, other_row)

@@ -1,9 +1,9 @@
 //! Whether a plan keeps a row.
-ghost use Rattle.std.specs.Prelude.{◌≡◌, length};
+ghost use Rattle.std.specs.Prelude.{◌≡◌, IfSome, length};
 ghost use Rattle.smc_plan.specs.Conditions.{condition_tree};
 ghost use Rattle.smc_plan.specs.Leaves.{leaves_words};
 ghost use Rattle.smc_plan.specs.Planned.{filter_condition, plan_tree};
-ghost use Rattle.smc_meaning.specs.Conditions.{IsCondition, IsFilter};
+ghost use Rattle.smc_plan.specs.Kinds.{IsTyped};
 ghost use Rattle.smc_meaning.specs.Kept.{holds, is_kept, meets};
 
 use crate::comparing::compare_at;
@@ -28,7 +28,7 @@ fn holds(op: Op, order: Ordering) -> bool
 // Whether a condition holds of a row.
 fn meets(leaves: &[Leaf], condition: &TypedCond, row: &[u64]) -> bool
     requires words { length row.now ≡ leaves_words leaves.now }
-    requires sides { IsCondition leaves.now (condition_tree condition.now) }
+    requires sides { IsTyped leaves.now (condition_tree condition.now) }
     ensures { result ≡ meets leaves.now (condition_tree condition.now) row.now }
 {
     match condition {
@@ -46,7 +46,7 @@ fn meets(leaves: &[Leaf], condition: &TypedCond, row: &[u64]) -> bool
 /// Whether a plan keeps a row, given by the words of all its leaves.
 pub fn kept(plan: &Plan, row: &[u64]) -> bool
     requires words { length row.now ≡ leaves_words plan.now.leaves }
-    requires sides { IsFilter plan.now.leaves (filter_condition plan.now.filter) }
+    requires sides { IfSome (filter_condition plan.now.filter) (IsTyped plan.now.leaves) }
     ensures { result ≡ is_kept (plan_tree plan.now) row.now }
 {
     match &plan.filter {

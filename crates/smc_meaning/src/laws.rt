@@ -4,8 +4,9 @@ ghost use Rattle.smc_plan.specs.Bounds.{is_within};
 ghost use Rattle.smc_plan.specs.Typed.{TypedTree};
 ghost use Rattle.smc_plan.specs.declared.kind.Kind.{Kind};
 ghost use Rattle.smc_plan.specs.declared.leaf.Leaf.{Leaf};
+ghost use Rattle.smc_plan.specs.Kinds.{kind_in};
 ghost use Rattle.smc_meaning.specs.Values.{Cell, value_of};
-ghost use Rattle.smc_meaning.specs.Kinds.{IsOf, kind_of_typed};
+ghost use Rattle.smc_meaning.specs.Kinds.{IsOf};
 ghost use Rattle.std.specs.Cmp.{IsTotalOrder};
 ghost use Rattle.std.specs.List.Sorted.{IsPermutation, IsSorted};
 ghost use Rattle.std.specs.declared.cmp.Ordering.TheVariants.{Equal};
@@ -19,9 +20,9 @@ ghost use Rattle.smc_meaning.specs.Worked.{AveragesAreRounded, GroupsAreOrdered,
 /// In every row the value of an expression is one of its kind, within the bound of that, which is below the limit.
 pub fn values_are_bounded()
     ensures value { (leaves : List Leaf) (typed : TypedTree) (words : List ℕ) (kind : Kind)
-        → kind_of_typed leaves typed ≡ Ok kind → IsOf kind (value_of leaves typed words) }
+        → kind_in leaves typed ≡ Ok kind → IsOf kind (value_of leaves typed words) }
     ensures limit { (leaves : List Leaf) (typed : TypedTree) (kind : Kind)
-        → kind_of_typed leaves typed ≡ Ok kind → IsTrue (is_within kind) }
+        → kind_in leaves typed ≡ Ok kind → IsTrue (is_within kind) }
 {}
 
 /// What some answers print.

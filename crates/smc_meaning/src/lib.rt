@@ -19,6 +19,7 @@ pub mod laws;
 mod leaf;
 mod order;
 mod rows;
+mod shown;
 mod text;
 mod value;
 
@@ -28,5 +29,6 @@ pub use comparing::compare_rows;
 pub use decimal::Decimal;
 pub use filter::kept;
 pub use rows::Rows;
+pub use shown::{Shown, ShownText};
 pub use text::TextIn;
 pub use value::{Sort, day_at, number_at, sort_at, text_at};

@@ -1,12 +1,15 @@
 //! Texts of a row, compared byte by byte where they stand.
-ghost use Rattle.std.specs.Prelude.{◌≡◌, ◌<◌, length, slice_index};
+ghost use Rattle.std.specs.Prelude.{◌≡◌, ◌<◌, IfOk, length, slice_index};
 ghost use Rattle.std.specs.Ordering.{nat_cmp};
 ghost use Rattle.std.specs.Cmp.Lexicographic.{slice_cmp};
 ghost use Rattle.smc_types.specs.Columns.{width_of};
 ghost use Rattle.smc_meaning.specs.Texts.{IsWhole, bytes_in};
 
-use std::cmp::Ordering;
+use crate::ShownText;
 use smc_types::{text_byte, text_len};
+use smc_words::NoMemory;
+use std::alloc::Global;
+use std::cmp::Ordering;
 
 /// A text of a row.
 #[derive(Clone, Copy, Debug)]
@@ -55,5 +58,16 @@ impl<'a> TextIn<'a> {
             }
         }
         one_len.cmp(&other_len)
+    }
+    /// The same bytes in memory of their own.
+    pub(crate) fn copied(self, alloc: Global) -> Result<ShownText, NoMemory>
+        requires { IsWhole self }
+        ensures { IfOk result (λ text. text ≡ bytes_in self.entry) }
+    {
+        let mut bytes = Vec::new(alloc);
+        for place in 0..self.len() {
+            bytes.push(self.byte(place))?;
+        }
+        Ok(ShownText::of(bytes))
     }
 }

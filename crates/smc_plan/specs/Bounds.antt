@@ -88,6 +88,17 @@ are_narrow (Number one) (Number other) =
     nat_lt (bound_at (larger_scale one other) one) SIZE_LIMIT && nat_lt (bound_at (larger_scale one other) other) SIZE_LIMIT
 are_narrow _ _ = true
 
+-- whether a field takes such a value: a number a number of no more decimals, a day a day
+abbrev pub is_taken_by : (field value : Kind) → Bool
+is_taken_by (Number field) (Number value) = nat_le value.scale field.scale
+is_taken_by (Day field) (Day value) = true
+is_taken_by _ _ = false
+
+-- whether a number is within the limit where it is brought to the scale of a field
+abbrev pub is_narrow_in : (field value : Kind) → Bool
+is_narrow_in (Number field) (Number value) = nat_lt (bound_at field.scale value) SIZE_LIMIT
+is_narrow_in _ _ = true
+
 -- a bound as a `u128` counts it, where it can
 abbrev pub IsBound : Option ℕ → ℕ → Type 0
 IsBound None bound = 2 ^ 128 ≤ bound

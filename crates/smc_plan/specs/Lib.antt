@@ -11,3 +11,8 @@ pub mod Conds
 pub mod Items
 pub mod Orders
 pub mod Planned
+pub mod Edits
+pub mod Kinds
+pub mod Values
+pub mod Laws
+pub mod Worked

@@ -1,6 +1,6 @@
 //! What an expression is, and how large it may be.
 ghost use Rattle.std.specs.Prelude.{◌≡◌, ℕ, ◌+◌, ◌≤◌, nat_lt, IsTrue, IfOk};
-ghost use Rattle.smc_plan.specs.Bounds.{IsBound, added, are_narrow, bound_at, bounded, is_comparable, is_number, is_summable, is_within, joined, kind_of, multiplied, negated};
+ghost use Rattle.smc_plan.specs.Bounds.{IsBound, added, are_narrow, bound_at, bounded, is_comparable, is_narrow_in, is_number, is_summable, is_taken_by, is_within, joined, kind_of, multiplied, negated};
 ghost use Rattle.smc_plan.specs.declared.kind.Kind.TheVariants.{Number, Day as OfDay};
 
 use crate::PlanFault;
@@ -223,6 +223,29 @@ pub(crate) fn are_narrow(one: Kind, other: Kind) -> bool
             let scale = one.scale.max(other.scale);
             is_narrow_at(scale, one) && is_narrow_at(scale, other)
         }
+        _ => true,
+    }
+}
+
+/// Whether a field takes such a value.
+pub(crate) fn is_taken_by(field: Kind, value: Kind) -> bool
+    ensures { result ≡ is_taken_by field value }
+{
+    match (field, value) {
+        (Kind::Number(field), Kind::Number(value)) => value.scale <= field.scale,
+        (Kind::Day { .. }, Kind::Day { .. }) => true,
+        _ => false,
+    }
+}
+
+/// Whether a number that a field takes is within the limit where it is brought to the field's scale.
+pub(crate) fn is_narrow_in(field: Kind, value: Kind) -> bool
+    requires within { IsTrue (is_within field) }
+    requires taken { IsTrue (is_taken_by field value) }
+    ensures { result ≡ is_narrow_in field value }
+{
+    match (field, value) {
+        (Kind::Number(field), Kind::Number(value)) => is_narrow_at(field.scale, value),
         _ => true,
     }
 }

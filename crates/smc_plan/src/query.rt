@@ -1,5 +1,5 @@
 //! A whole query: its parts planned in the order of the text.
-ghost use Rattle.std.specs.Prelude.{◌≡◌, ◌⊎◌, List, [], Ok, Err, IfOk, IfErr, map};
+ghost use Rattle.std.specs.Prelude.{◌≡◌, ◌⊎◌, List, [], Ok, Err, IfOk, IfErr, map, option_copied};
 ghost use Rattle.smc_query.specs.Trees.{filter_tree, path_tree, query_tree};
 ghost use Rattle.smc_plan.specs.Answers.{Answers, and_then};
 ghost use Rattle.smc_plan.specs.Items.{names_of};
@@ -24,9 +24,9 @@ pub(crate) fn planned_filter(
     catalog: &Catalog,
     table: u32,
     leaves: &mut Leaves,
-    filter: &Option<Cond>,
+    filter: Option<&Cond>,
 ) -> Result<Option<TypedCond>, PlanFault>
-    ensures { Answers (λ typed. made leaves.new (filter_condition typed)) result (planned_filter catalog.now table (filter_tree filter.now) leaves.old) }
+    ensures { Answers (λ typed. made leaves.new (filter_condition typed)) result (planned_filter catalog.now table (filter_tree (option_copied filter.entry)) leaves.old) }
 {
     match filter {
         None => Ok(None),
@@ -80,7 +80,7 @@ fn planned_parts(
     ensures { Answers plan_tree result (and_then (planned_parts catalog.now (names_of folds.now) table (query_tree query.now) []) (λ all. Ok all.part)) }
 {
     let mut leaves = Leaves::new(alloc);
-    let filter = planned_filter(alloc, catalog, table, &mut leaves, &query.filter)?;
+    let filter = planned_filter(alloc, catalog, table, &mut leaves, query.filter.as_ref())?;
     let paths = query.by.as_slice();
     let by = placed_paths(alloc, catalog, table, &mut leaves, paths)?;
     let shown = query.items.as_slice();

@@ -1,0 +1,41 @@
+//! What plans are worth, as theorems over the definitions: functions with no body, whose clauses are the laws.
+ghost use Rattle.smc_plan.specs.Laws.{BroughtAreBounded, EditsAreTyped, EditsDiffer, QueriesAreTyped, QueriesDiffer, ValuesAreBounded};
+ghost use Rattle.smc_plan.specs.Worked.{EndsInReference, FaultsInOrder, FollowsName, LacksField, LacksFold, LacksTable, PlansForecast, PlansShipping, SumsSquares, SumsText};
+
+use smc_types::laws::a_text_says_a_day_in_range;
+
+/// Queries over the tables of TPC-H, with their plans or their faults.
+pub fn worked_queries()
+    ensures lacks_table { LacksTable }
+    ensures lacks_field { LacksField }
+    ensures lacks_fold { LacksFold }
+    ensures sums_text { SumsText }
+    ensures ends_in_reference { EndsInReference }
+    ensures follows_name { FollowsName }
+    ensures sums_squares { SumsSquares }
+    ensures faults_in_order { FaultsInOrder }
+    ensures plans_forecast { PlansForecast }
+    ensures plans_shipping { PlansShipping }
+{}
+
+/// No leaf of a plan stands twice.
+pub fn leaves_are_different()
+    ensures of_queries { QueriesDiffer }
+    ensures of_edits { EditsDiffer }
+{}
+
+/// The parts of a plan are what they are said to be: each expression has the kind that its tree and the leaves give, all that
+/// is compared can be compared, and places and columns are in range.
+pub fn parts_are_typed()
+    ensures of_queries { QueriesAreTyped }
+    ensures of_edits { EditsAreTyped }
+{
+    a_text_says_a_day_in_range();
+}
+
+/// Each value of an expression is within the bound of its kind, and no number reaches the limit, also where it is brought to a
+/// scale at which it is within the limit.
+pub fn values_are_bounded()
+    ensures values { ValuesAreBounded }
+    ensures brought { BroughtAreBounded }
+{}
