@@ -1,5 +1,5 @@
 -- What a plan shows can be printed.
-use Rattle.std.proofs.Common.{◌≡◌, ℕ, ◌≤◌, max, Bool, true, false, ◌&&◌, nat_le, IsTrue, ℤ, List, slice_index, Some, arith, rules}
+use Rattle.std.proofs.Common.{ℕ, ◌≤◌, max, IsTrue, ℤ, List, slice_index, Some, arith, rules}
 use Rattle.std.proofs.lemmas.Bool.Decides.{nat_tests}
 use Rattle.std.proofs.lemmas.Int.{ints, clamps}
 use Rattle.smc_types.specs.Days.{IsDay}
@@ -10,12 +10,10 @@ use Rattle.smc_types.specs.declared.column.FieldType.TheVariants as of
 use Rattle.smc_types.specs.declared.number.TheConstants.{DAY_MAX, DAY_MIN}
 use Rattle.smc_plan.specs.Bounds.{is_within}
 use Rattle.smc_plan.specs.declared.kind.Extent.{Extent}
-use Rattle.smc_plan.specs.declared.kind.Kind.{Kind}
 use Rattle.smc_plan.specs.declared.kind.Kind.TheVariants.{Number}
 use Rattle.smc_plan.specs.declared.kind.TheConstants.{HUNDREDTHS, MAX_SCALE}
 use Rattle.smc_meaning.specs.Cells.{CanPrint}
-use Rattle.smc_meaning.specs.Kinds.{IsOf}
-use Rattle.smc_meaning.specs.Values.{Cell, number, day, text, cell_of, leaf_value}
+use Rattle.smc_meaning.specs.Values.{number, cell_of}
 
 -- the nearest day of the calendar is one of it
 nearest_day : (days : ℤ) → IsDay (nearest DAY_MIN DAY_MAX days)

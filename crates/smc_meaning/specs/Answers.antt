@@ -1,14 +1,7 @@
 -- The answer of a plan over rows.
-use Rattle.std.specs.Prelude.{ℕ, Bool, if◌then◌else◌, List, [], ◌∷◌, ◌++◌, map, take, Option, None, Some, slice_get}
-use Rattle.std.specs.Option.{option_and_then}
-use Rattle.std.specs.Ordering.{ordering_then, ordering_reverse}
-use Rattle.std.specs.declared.cmp.Ordering.{Ordering}
-use Rattle.std.specs.declared.cmp.Ordering.TheVariants.{Less, Equal, Greater}
-use Rattle.std.specs.Cmp.Lexicographic.{slice_cmp}
+use Rattle.std.specs.Prelude.{ℕ, List, [], ◌∷◌, ◌++◌, map, Option, Some}
 use Rattle.smc_folds.specs.Kinds as folds
 use Rattle.smc_plan.specs.Planned.{Planned}
-use Rattle.smc_plan.specs.declared.plan.OrderKey.{OrderKey}
-use Rattle.smc_meaning.specs.Comparing.{compare}
 use Rattle.smc_meaning.specs.Groups.{groups, key_of, shown}
 use Rattle.smc_meaning.specs.Kept.{kept_rows}
 use Rattle.smc_meaning.specs.Orders.{ordered}

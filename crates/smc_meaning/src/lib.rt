@@ -4,7 +4,8 @@
 //! leaves of a plan, one leaf behind the other. Below stand `smc_plan` with plans and `smc_types` with columns; above, the
 //! crates that answer queries fast, whose answers are those of the definitions here.
 //!
-//! `cell` has the columns of an answer and `answer` its rows; their text is defined in `specs/Printed.antt`.
+//! `cell` has the columns of an answer, `answer` its rows and its text, and `order` the order of rows. The order is defined
+//! in `specs/Orders.antt`, the text in `Printed.antt`.
 //!
 //! The value of an expression is defined in `specs/Values.antt`, and what an expression is in `Kinds.antt`.
 #![tactic(auto)]
