@@ -5,3 +5,4 @@ pub mod TextOrders
 pub mod SideLaws
 pub mod RowLaws
 pub mod GroupLaws
+pub mod SumLaws

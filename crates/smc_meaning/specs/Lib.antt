@@ -6,6 +6,7 @@ pub mod Texts
 pub mod Comparing
 pub mod Kept
 pub mod Shown
+pub mod Summing
 pub mod Sorting
 pub mod Groups
 pub mod Answers
