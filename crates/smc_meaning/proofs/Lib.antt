@@ -6,3 +6,4 @@ pub mod SideLaws
 pub mod RowLaws
 pub mod GroupLaws
 pub mod SumLaws
+pub mod EndLaws
