@@ -11,3 +11,5 @@ pub mod SideLaws
 pub mod RowLaws
 pub mod GroupLaws
 pub mod Printable
+pub mod SumLaws
+pub mod EndLaws

@@ -11,6 +11,8 @@ pub mod Texts
 pub mod Comparing
 pub mod Kept
 pub mod Shown
+pub mod Summing
+pub mod Nearer
 pub mod Sorting
 pub mod Groups
 pub mod Answers

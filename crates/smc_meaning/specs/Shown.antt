@@ -1,5 +1,5 @@
 -- What stands in an output column, as a value alone.
-use Rattle.std.specs.Prelude.{List, map, Option, None, Some}
+use Rattle.std.specs.Prelude.{Option, None, Some}
 use Rattle.smc_meaning.specs.Decimals.{decimal_cell}
 use Rattle.smc_meaning.specs.Values.{Cell, day, text}
 use Rattle.smc_meaning.specs.declared.shown.Shown.{Shown}
