@@ -11,4 +11,5 @@ pub mod Nearer
 pub mod Sorting
 pub mod Groups
 pub mod Answers
+pub mod Printed
 pub mod Worked

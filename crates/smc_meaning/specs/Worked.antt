@@ -14,6 +14,7 @@ use Rattle.smc_plan.specs.Typed.{KindedTree, leaf}
 use Rattle.smc_plan.specs.declared.leaf.Leaf.{Leaf}
 use Rattle.smc_plan.specs.declared.plan.OrderKey.{OrderKey}
 use Rattle.smc_meaning.specs.Answers.{Columns, answer_of}
+use Rattle.smc_meaning.specs.Printed.{number_text}
 use Rattle.smc_meaning.specs.Values.{number, text}
 
 -- a leaf of this type
@@ -97,3 +98,13 @@ TextsAndFolds =
     ≡ (Some (text (codes "axle")) ∷ (Some (text (codes "bolt")) ∷ [])) ∷ [])
     × (answer_of (plan [] (fold (codes "median") amount ∷ (fold (codes "distinct") amount ∷ [])) [] None) folds_here rows
     ≡ (Some (number (pos 250) 2) ∷ (Some (number (pos 3) 0) ∷ [])) ∷ [])
+
+-- two decimals, a digit before the point, and a minus below 0; no point where there are no decimals
+abbrev pub NumbersArePrinted : Type 0
+NumbersArePrinted =
+    (number_text (pos 203215008) 4 ≡ codes "20321.5008")
+    × (number_text (pos 5) 2 ≡ codes "0.05")
+    × (number_text (neg_ℤ (pos 50)) 2 ≡ codes "-0.50")
+    × (number_text (pos 0) 2 ≡ codes "0.00")
+    × (number_text (pos 17) 0 ≡ codes "17")
+    × (number_text (neg_ℤ (pos 7)) 0 ≡ codes "-7")

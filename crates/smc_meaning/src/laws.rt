@@ -7,7 +7,7 @@ ghost use Rattle.smc_plan.specs.declared.leaf.Leaf.{Leaf};
 ghost use Rattle.smc_meaning.specs.Values.{value_of};
 ghost use Rattle.smc_plan.specs.Kinds.{kind_in};
 ghost use Rattle.smc_meaning.specs.Kinds.{IsOf};
-ghost use Rattle.smc_meaning.specs.Worked.{AveragesAreRounded, GroupsAreOrdered, NoRowsAreOneGroup, TextsAndFolds, TiesGoByTheColumns};
+ghost use Rattle.smc_meaning.specs.Worked.{AveragesAreRounded, GroupsAreOrdered, NoRowsAreOneGroup, NumbersArePrinted, TextsAndFolds, TiesGoByTheColumns};
 
 /// In every row the value of an expression is one of its kind, within the bound of that, which is below the limit.
 pub fn values_are_bounded()
@@ -24,4 +24,5 @@ pub fn worked()
     ensures order { GroupsAreOrdered }
     ensures ties { TiesGoByTheColumns }
     ensures texts { TextsAndFolds }
+    ensures printed { NumbersArePrinted }
 {}
