@@ -1,2 +1,4 @@
 pub mod WordLaws
 pub mod RecordLaws
+pub mod TextLaws
+pub mod FileLaws

@@ -1,5 +1,5 @@
 -- What it is to load the rows of a table: the objects that are added, and the keys that are put.
-use Rattle.std.specs.Prelude.{◌≡◌, ℕ, Bool, true, false, List, [], ◌∷◌, ◌++◌, take, slice_index, Option, Some, None, Result, Ok, Err, ⊤}
+use Rattle.std.specs.Prelude.{◌≡◌, ◌⊎◌, ℕ, Bool, true, false, List, [], ◌∷◌, ◌++◌, take, slice_index, Option, Some, None, Result, Ok, Err}
 use Rattle.std.specs.List.{flat_map}
 use Rattle.smc_words.specs.Number.{packed_number}
 use Rattle.smc_words.specs.declared.number.Number.{Number}
@@ -10,6 +10,7 @@ use Rattle.smc_types.specs.declared.column.Column.{Column}
 use Rattle.smc_types.specs.declared.column.FieldType.{FieldType}
 use Rattle.smc_types.specs.declared.column.FieldType.TheVariants.{RefTo}
 use Rattle.smc_types.specs.declared.schema.Schema.{Schema}
+use Rattle.smc_tbl.specs.Words.{AreRowWords}
 use Rattle.smc_region.specs.Callers.{Caller}
 use Rattle.smc_trace.specs.Trace.{CallEnd}
 use Rattle.smc_does.specs.Does.{DoesSome}
@@ -61,17 +62,24 @@ PutsKey false table key number old new = new ≡ old
 -- the row of these words is added as one object of the collection, its references found by the keys as they stand, and
 -- its first word is its key
 pub record LoadsRow (schema : Schema) (table coll : ℕ) (old new : Entries) (words : List ℕ) (calls : List CallEnd) : Type 0 where
+  pub row : AreRowWords schema words
   pub number : Number
   pub adds : AddsRow coll (record_of schema.columns old words) (Ok number) calls
   pub puts : PutsKey schema.keyed table (slice_index words 0) number old new
 
 -- both tries to add it are refused
 pub record RefusesRow (schema : Schema) (coll : ℕ) (keys : Entries) (words : List ℕ) (calls : List CallEnd) : Type 0 where
+  pub row : AreRowWords schema words
   pub cause : Full
   pub adds : AddsRow coll (record_of schema.columns keys words) (Err cause) calls
+
+-- an object of these words may be added, and nothing else is done
+abbrev pub MayAddRow : ℕ → List ℕ → List CallEnd → Type 0
+MayAddRow coll words calls = (calls ≡ []) ⊎ ((number : Number) × AddsRow coll words (Ok number) calls)
 
 -- how the loading of one row ends
 abbrev pub RowEnds : Result (Unit {0}) RowFault → Schema → ℕ → ℕ → Entries → Entries → List ℕ → Caller → Caller → Type 0
 RowEnds (Ok _) schema table coll old new words before after = DoesSome before after (LoadsRow schema table coll old new words)
 RowEnds (Err row.Full) schema table coll old new words before after = (new ≡ old) × DoesSome before after (RefusesRow schema coll old words)
-RowEnds (Err row.NoMemory) schema table coll old new words before after = DoesSome before after (λ calls. ⊤)
+RowEnds (Err row.NoMemory) schema table coll old new words before after =
+    (new ≡ old) × DoesSome before after (MayAddRow coll (record_of schema.columns old words))

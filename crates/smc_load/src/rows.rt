@@ -1,5 +1,5 @@
 //! A row of a table is added as one object.
-ghost use Rattle.std.specs.Prelude.{◌≡◌, ◌<◌, OnOk, length, slice_index};
+ghost use Rattle.std.specs.Prelude.{◌≡◌, ◌<◌, OnErr, OnOk, length, slice_index};
 ghost use Rattle.smc_shape.specs.Layout.{width_of};
 ghost use Rattle.smc_words.specs.Number.{FitsNumber};
 ghost use Rattle.smc_region.specs.Callers.{IsPassOf};
@@ -18,7 +18,7 @@ use smc_words::{NoMemory, Number};
 pub enum RowFault {
     /// Both tries to add the object were refused. Nothing was put.
     Full,
-    /// Memory was refused. The object may have been added.
+    /// Memory was refused. The object may have been added, but no key was put.
     NoMemory,
 }
 
@@ -31,7 +31,8 @@ fn put_key(
     number: Number,
 ) -> Result<(), NoMemory>
     requires { FitsNumber number }
-    ensures { OnOk result (PutsKey keyed table key number keys.old keys.new) }
+    ensures done { OnOk result (PutsKey keyed table key number keys.old keys.new) }
+    ensures kept { OnErr result (keys.new ≡ keys.old) }
 {
     if keyed {
         keys.put(table, key, number)?;

@@ -13,3 +13,4 @@ pub mod GroupLaws
 pub mod Printable
 pub mod SumLaws
 pub mod EndLaws
+pub mod EditedLaws

@@ -10,6 +10,7 @@ pub mod Orders
 pub mod Texts
 pub mod Comparing
 pub mod Kept
+pub mod Edited
 pub mod Shown
 pub mod Summing
 pub mod Nearer

@@ -25,8 +25,8 @@ fn holds(op: Op, order: Ordering) -> bool
     }
 }
 
-// Whether a condition holds of a row.
-fn meets(leaves: &[Leaf], condition: &TypedCond, row: &[u64]) -> bool
+/// Whether a condition holds of a row.
+pub(crate) fn meets(leaves: &[Leaf], condition: &TypedCond, row: &[u64]) -> bool
     requires words { length row.now ≡ leaves_words leaves.now }
     requires sides { IsTyped leaves.now (condition_tree condition.now) }
     ensures { result ≡ meets leaves.now (condition_tree condition.now) row.now }

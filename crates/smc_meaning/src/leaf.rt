@@ -41,8 +41,8 @@ pub(crate) fn leaf_words<'a>(leaves: &[Leaf], place: usize, row: &'a [u64]) -> &
     words
 }
 
-// How many decimals the numbers of a column have.
-fn scale_of(kind: FieldType) -> u32
+/// How many decimals the numbers of a column have.
+pub(crate) fn scale_of(kind: FieldType) -> u32
     ensures { result ≡ scale_of kind }
 {
     match kind {

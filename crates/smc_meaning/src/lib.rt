@@ -7,17 +7,20 @@
 //! `laws` the theorems over the definitions. Below stand `smc_plan` with plans and `smc_types` with columns; above, the crates
 //! that answer queries fast, whose answers are those of the definitions here.
 //!
-//! `cell` has the columns of an answer, `answer` its rows and its text, and `order` the order of rows.
+//! `cell` has the columns of an answer, `answer` its rows and its text, and `order` the order of rows. `editing` says what an edit
+//! does with a row.
 //!
 //! The value of an expression is defined in `specs/Values.antt`, how values compare in `Comparing.antt`, the rows that are kept in
 //! `Kept.antt`, groups and aggregates in `Groups.antt`, and the answer of a plan in `Answers.antt`; the order of rows stands in
-//! `Orders.antt`, the text of an answer in `Printed.antt`. `Worked.antt` has answers over a few rows.
+//! `Orders.antt`, the text of an answer in `Printed.antt`, and what an edit does in `Edited.antt`. `Worked.antt` has answers over a
+//! few rows.
 #![tactic(auto)]
 
 mod answer;
 mod cell;
 mod comparing;
 mod decimal;
+mod editing;
 mod extremes;
 mod filter;
 mod group;
@@ -35,6 +38,7 @@ pub use answer::{Answer, AnswerRow};
 pub use cell::Cell;
 pub use comparing::compare_rows;
 pub use decimal::Decimal;
+pub use editing::{Edited, edit};
 pub use extremes::End;
 pub use filter::kept;
 pub use rows::{ROWS_MAX, Rows};

@@ -1,8 +1,12 @@
-use Rattle.std.proofs.Common.{◌≡◌, ℕ, List, length, sym, subst, ap, ◌∙◌}
+use Rattle.std.proofs.Common.{◌≡◌, ℕ, List, Result, Ok, inr, length, sym, subst, ap, ◌∙◌}
 use Rattle.std.specs.Prelude.{IsTrue}
+use Rattle.smc_words.specs.declared.number.Number.{Number}
 use Rattle.smc_shape.specs.Layout.{Layout, width_of}
 use Rattle.smc_core.specs.Add.{has_no_blank}
 use Rattle.smc_types.specs.declared.column.Column.{Column}
+use Rattle.smc_does.specs.Does.{DoesSome}
+use Rattle.smc_objects.specs.Alone.{AddsRow}
+use Rattle.smc_objects.specs.declared.adding.Full.{Full}
 use Rattle.smc_load.specs.Loading.{record_of}
 use Rattle.smc_load.proofs.RecordLaws.{record-width}
 use Rattle.smc_load.proofs.WordLaws.{are-small}
@@ -21,3 +25,15 @@ pub add_one-pass-requires-clause-values : goal.add_one-pass-requires-clause-valu
 add_one-pass-requires-clause-values c =
     let small = are-small c.args.schema.now c.args.words.now.items c.requires.row in
     subst (λ (k : List ℕ). IsTrue (has_no_blank k)) (sym c.deref-2.ensures.value) (c.in-Ok.ensures.values small)
+
+-- the object was added, and its key was not put
+pub returns-in-Err : goal.returns-in-Err
+returns-in-Err c =
+    let keys = c.args.keys.now in
+    let words = c.args.words.now.items in
+    let last = c.add_one-pass.result.0 in
+    let number = c.in-Ok-answer.number in
+    let done = subst (λ (k : List Column). c.push_references.new.words.items ≡ record_of k keys words) c.as_slice.ensures.columns c.in-Ok.ensures.done in
+    let adds = subst (λ (k : Result Number Full). DoesSome c.args.pass last (AddsRow c.args.coll c.deref-2.result.now k)) c.in-Ok-answer.is c.add_one-pass.ensures.done in
+    let as_record = subst (λ (k : List ℕ). DoesSome c.args.pass last (AddsRow c.args.coll k (Ok number))) (c.deref-2.ensures.value ∙ done) adds in
+    (c.in-Err.ensures.kept, (as_record.0, as_record.1, inr (number, as_record.2)))

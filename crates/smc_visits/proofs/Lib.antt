@@ -1,0 +1,6 @@
+pub mod RowLaws
+pub mod VisitLaws
+pub mod EditLaws
+pub mod StillLaws
+pub mod FitLaws
+pub mod TakenLaws
