@@ -8,9 +8,10 @@ ghost use Rattle.smc_meaning.specs.Printed.{column_text, decimals_text, last_dig
 
 use crate::Decimal;
 use itoa::Buffer;
-use smc_types::{RowText, day_text};
+use smc_types::day_text;
 use smc_words::NoMemory;
 use std::alloc::Global;
+use std::marker::Model;
 
 /// The digit of 0; the others follow it.
 const ZERO_DIGIT: u8 = b'0';
@@ -24,13 +25,43 @@ const MINUS: u8 = b'-';
 /// The text of a column that has no value.
 const NONE: &[u8] = b"none";
 
+/// A text of an answer. Contracts see its bytes.
+#[derive(Debug, Drop)]
+pub struct ShownText {
+    bytes: Vec<u8>,
+}
+
+impl Model for ShownText {
+    ghost use Rattle.std.specs.Prelude.{List, ℕ};
+
+    ghost Value = { List ℕ };
+
+    ghost view = { λ text. text.bytes.items };
+}
+
+impl ShownText {
+    /// A text from its bytes, which takes no memory.
+    pub fn of(bytes: Vec<u8>) -> ShownText
+        ensures { result ≡ bytes.items }
+    {
+        ShownText { bytes }
+    }
+
+    /// Its bytes.
+    pub fn as_slice(&self) -> &[u8]
+        ensures { result.now ≡ self.now }
+    {
+        self.bytes.as_slice()
+    }
+}
+
 /// The value of a column of an answer.
 #[derive(Debug, Drop)]
 pub enum Cell {
     Number(Decimal),
     /// Days from 1970-01-01.
     Day(i32),
-    Text(RowText),
+    Text(ShownText),
 }
 
 impl Cell {
@@ -44,7 +75,7 @@ impl Cell {
             Cell::Day(day) => Ok(Cell::Day(*day)),
             Cell::Text(text) => {
                 let bytes = Vec::from_slice(alloc, text.as_slice())?;
-                Ok(Cell::Text(RowText::of(bytes)))
+                Ok(Cell::Text(ShownText::of(bytes)))
             }
         }
     }

@@ -5,12 +5,13 @@ ghost use Rattle.smc_plan.specs.Typed.{typed_tree};
 ghost use Rattle.smc_meaning.specs.Groups.{choice_of, chosen_of, values_of};
 ghost use Rattle.smc_meaning.specs.Kinds.{HasKind};
 ghost use Rattle.smc_meaning.specs.Nearer.{better, is_nearer, value_in};
-ghost use Rattle.smc_meaning.specs.Shown.{shown_cell};
+ghost use Rattle.smc_meaning.specs.Cells.{column_seen};
+ghost use Rattle.smc_meaning.specs.Shown.{IsShowable};
 ghost use Rattle.smc_meaning.specs.Values.{value_of};
 
 use crate::comparing::compare_rows;
 use crate::shown::shown_at;
-use crate::{Rows, Shown};
+use crate::{Cell, Rows};
 use smc_plan::{Leaf, Typed};
 use smc_words::NoMemory;
 use std::alloc::Global;
@@ -83,13 +84,13 @@ pub(crate) fn end_shown(
     of: &Typed,
     end: End,
     rows: &Rows,
-) -> Result<Shown, NoMemory>
+) -> Result<Option<Cell>, NoMemory>
     requires words { rows.now.width ≡ leaves_words leaves.now }
-    requires typed { HasKind leaves.now (typed_tree of.now) }
-    ensures { IfOk result (λ shown. shown_cell shown ≡ chosen_of (choice_of end) (values_of leaves.now (typed_tree of.now) rows.now.rows)) }
+    requires showable { IsShowable leaves.now (typed_tree of.now) }
+    ensures { IfOk result (λ shown. column_seen shown ≡ chosen_of (choice_of end) (values_of leaves.now (typed_tree of.now) rows.now.rows)) }
 {
     match end_row(leaves, of, end, rows) {
-        None => Ok(Shown::Nothing),
-        Some(row) => shown_at(alloc, leaves, of, row),
+        None => Ok(None),
+        Some(row) => Ok(Some(shown_at(alloc, leaves, of, row)?)),
     }
 }

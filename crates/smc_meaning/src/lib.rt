@@ -35,13 +35,12 @@ mod text;
 mod value;
 
 pub use answer::{Answer, AnswerRow};
-pub use cell::Cell;
+pub use cell::{Cell, ShownText};
 pub use comparing::compare_rows;
 pub use decimal::Decimal;
 pub use editing::{Edited, edit};
 pub use extremes::End;
 pub use filter::kept;
 pub use rows::{ROWS_MAX, Rows};
-pub use shown::{Shown, ShownText};
 pub use text::TextIn;
 pub use value::{Sort, day_at, number_at, sort_at, text_at};

@@ -5,12 +5,12 @@ ghost use Rattle.smc_plan.specs.Kinds.{IsOutput};
 ghost use Rattle.smc_plan.specs.Leaves.{leaves_words};
 ghost use Rattle.smc_plan.specs.Outputs.{output_tree};
 ghost use Rattle.smc_meaning.specs.Groups.{is_plain, shown};
-ghost use Rattle.smc_meaning.specs.Shown.{shown_cell};
+ghost use Rattle.smc_meaning.specs.Cells.{column_seen};
 ghost use Rattle.smc_meaning.specs.declared.rows.TheConstants.{ROWS_MAX};
 
 use crate::extremes::end_shown;
 use crate::summing::{average_shown, sum_shown};
-use crate::{Decimal, End, Rows, Shown};
+use crate::{Cell, Decimal, End, Rows};
 use smc_plan::{Leaf, Output};
 use smc_words::NoMemory;
 use std::alloc::Global;
@@ -21,18 +21,18 @@ pub(crate) fn output_shown(
     leaves: &[Leaf],
     output: &Output,
     rows: &Rows,
-) -> Result<Shown, NoMemory>
+) -> Result<Option<Cell>, NoMemory>
     requires words { rows.now.width ≡ leaves_words leaves.now }
     requires count { length rows.now.rows ≤ ROWS_MAX }
     requires output { IsOutput leaves.now (output_tree output.now) }
     requires plain { is_plain (output_tree output.now) ≡ true }
-    ensures { (kinds : List Kind) → IfOk result (λ made. shown_cell made ≡ shown kinds leaves.now (output_tree output.now) rows.now.rows) }
+    ensures { (kinds : List Kind) → IfOk result (λ made. column_seen made ≡ shown kinds leaves.now (output_tree output.now) rows.now.rows) }
 {
     match output {
-        Output::Count => Ok(Shown::Number(Decimal {
+        Output::Count => Ok(Some(Cell::Number(Decimal {
             units: rows.len() as i128,
             scale: 0,
-        })),
+        }))),
         Output::Sum(of) => Ok(sum_shown(leaves, of, rows)),
         Output::Avg(of) => Ok(average_shown(leaves, of, rows)),
         Output::Min(of) => end_shown(alloc, leaves, &of.typed, End::Least, rows),
