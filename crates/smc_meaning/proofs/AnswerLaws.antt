@@ -1,9 +1,8 @@
 -- The rows of an answer, column by column and group by group.
-use Rattle.std.proofs.Common.{◌≡◌, ℕ, suc, ◌+◌, ◌<◌, ◌≤◌, Bool, ◌||◌, true, false, cond, List, [], ◌∷◌, ◌++◌, All, length, map, filter, take, get_or, slice_get, slice_index_or, Some, refl, sym, ap, ◌∙◌, arith}
+use Rattle.std.proofs.Common.{◌≡◌, ℕ, suc, ◌+◌, ◌<◌, ◌≤◌, Bool, ◌||◌, true, false, cond, List, [], ◌∷◌, ◌++◌, All, length, map, filter, take, slice_get, slice_index_or, Some, refl, sym, ap, ◌∙◌, arith}
 use Rattle.std.specs.List.{AllByRecursion}
-use Rattle.std.proofs.lemmas.List.{map-append, take_more}
+use Rattle.std.proofs.lemmas.List.{map-append}
 use Rattle.std.proofs.lemmas.List.Elements.{All-append, All-from_recursion}
-use Rattle.std.proofs.lemmas.Option.{slice_get_within, get_or_from_slice_get}
 use Rattle.smc_folds.specs.Kinds as folds
 use Rattle.smc_plan.specs.Bounds.{is_number}
 use Rattle.smc_plan.specs.Kinds.{IsOutput, IsPlace, IsPlan}
@@ -19,14 +18,9 @@ use Rattle.smc_meaning.specs.Orders.{ordered}
 use Rattle.smc_meaning.specs.Shown.{IsShowable}
 use Rattle.smc_meaning.proofs.GroupLaws.{typed_leaf}
 use Rattle.smc_meaning.proofs.Printable.{key-prints, shown-prints}
+use Rattle.smc_meaning.proofs.RowLaws.{take-next}
 
--- ---- elements, one after another
-
--- what is made of elements so far, with one more
-made-next : {X Y : Type 0} (f : X → Y) (xs : List X) (i : ℕ) (x : X) → i < length xs → x ≡ get_or xs i x
-    → map f (take (i + 1) xs) ≡ map f (take i xs) ++ f x ∷ []
-made-next f xs i x within is =
-    ap (map f) (take_more xs i x within ∙ ap (λ y. take i xs ++ y ∷ []) (sym is)) ∙ map-append f (take i xs) (x ∷ [])
+-- ---- what the columns of a group show
 
 -- a leaf can be shown
 with_true : (one : Bool) → (one || true) ≡ true
@@ -41,8 +35,7 @@ pub key_showable : (leaves : List Leaf) (places : List ℕ) (i d : ℕ) → i < 
     → IsShowable leaves (typed.leaf (slice_index_or places i d))
 key_showable leaves places i d within all = leaf_showable leaves (slice_index_or places i d) (All-from_recursion (IsPlace leaves) places all i d within)
 
--- ---- what the columns of a group show can be printed
-
+-- all columns of a group can be printed
 keys-print : (leaves : List Leaf) (places : List ℕ) (words : List ℕ) → AllByRecursion CanPrint (map Some (values_at leaves places words))
 keys-print leaves [] words = tt
 keys-print leaves (place ∷ places) words = (key-prints leaves place words, keys-print leaves places words)
@@ -78,11 +71,12 @@ pub group-more : (f : List (List ℕ) → Columns) (g : List ℕ → List (List 
     → slice_get firsts place ≡ Some first → so_far ≡ map f (map g (take place firsts)) → made ≡ f (g first) → longer ≡ so_far ++ made ∷ []
     → longer ≡ map f (map g (take (place + 1) firsts))
 group-more f g firsts place first so_far longer made found is made_is grown =
-    let at : first ≡ get_or firsts place first = sym (get_or_from_slice_get firsts place first first found) in
     grown
     ∙ ap (λ front. front ++ made ∷ []) is
     ∙ ap (λ one. map f (map g (take place firsts)) ++ one ∷ []) made_is
-    ∙ sym (ap (map f) (made-next g firsts place first (slice_get_within firsts place first found) at) ∙ map-append f (map g (take place firsts)) (g first ∷ []))
+    ∙ sym (ap (λ some. map f (map g some)) (take-next firsts place first found)
+    ∙ ap (map f) (map-append g (take place firsts) (first ∷ []))
+    ∙ map-append f (map g (take place firsts)) (g first ∷ []))
 
 -- ---- without folds it is one which folds there are
 

@@ -2,9 +2,7 @@
 use Rattle.std.proofs.Common.{◌≡◌, ℕ, suc, ◌+◌, ◌^◌, ◌<◌, ◌≤◌, to_z, of_z, ◌-ℤ◌, ℤ, pos, negsuc, ◌+ℤ◌, ◌<ℤ◌, ◌≤ℤ◌, neg_ℤ, unsigned_abs, List, [], ◌∷◌, ◌++◌, fold, take, Some, slice_get, refl, sym, ap, ◌∙◌, length, max, mul-le-mul, ◌*ℤ◌, ◌-◌, arith}
 use Rattle.std.specs.Int.{w128}
 use Rattle.std.proofs.lemmas.Int.{ints, unsigned_abs-mul}
-use Rattle.std.proofs.lemmas.List.{take_more}
 use Rattle.std.proofs.Math.Nat.{pow-le-pow_right}
-use Rattle.std.proofs.lemmas.Option.{slice_get_within, get_or_from_slice_get}
 use Rattle.smc_plan.specs.Typed.{TypedTree}
 use Rattle.smc_plan.specs.declared.kind.TheConstants.{HUNDREDTHS, SIZE_LIMIT, SUM_LIMIT}
 use Rattle.smc_plan.specs.declared.leaf.Leaf.{Leaf}
@@ -15,11 +13,7 @@ use Rattle.smc_meaning.specs.Summing.{IsSummable}
 use Rattle.smc_meaning.specs.Values.{Cell, number, units_at, value_of}
 use Rattle.smc_meaning.specs.declared.decimal.Decimal.{Decimal}
 use Rattle.smc_meaning.proofs.OperandLaws.{decimal_has}
-
--- the rows so far, with one more
-take-next : (rows : List (List ℕ)) (place : ℕ) (row : List ℕ) → slice_get rows place ≡ Some row → take (place + 1) rows ≡ take place rows ++ row ∷ []
-take-next rows place row found =
-    take_more rows place row (slice_get_within rows place row found) ∙ ap (λ r. take place rows ++ r ∷ []) (get_or_from_slice_get rows place row row found)
+use Rattle.smc_meaning.proofs.RowLaws.{take-next}
 
 -- the values of rows, with those of one more
 pub values_of-append : (leaves : List Leaf) (of : TypedTree) (rows : List (List ℕ)) (row : List ℕ)
