@@ -7,9 +7,9 @@
 //! `laws` the theorems over the definitions. Below stand `smc_plan` with plans and `smc_types` with columns; above, the crates
 //! that answer queries fast, whose answers are those of the definitions here.
 //!
-//! `cell` has the columns of an answer, `answer` its rows and its text, and `order` the order of rows; `answering` is the
-//! evaluator, made of all these. `editing` says what an edit
-//! does with a row.
+//! `cell` has the columns of an answer, `answer` its rows and its text, and `order` the order of rows. `answering` is the
+//! evaluator, made of all these: `slow` gives the answer of each plan that has no fold, and `is_plain` says which have none.
+//! `editing` says what an edit does with a row.
 //!
 //! The value of an expression is defined in `specs/Values.antt`, how values compare in `Comparing.antt`, the rows that are kept in
 //! `Kept.antt`, groups and aggregates in `Groups.antt`, and the answer of a plan in `Answers.antt`; the order of rows stands in
