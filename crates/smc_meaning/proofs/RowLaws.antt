@@ -1,7 +1,13 @@
 -- Rows that stand one behind the other.
-use Rattle.std.proofs.Common.{◌≡◌, ℕ, zero, suc, ◌+◌, ◌*◌, ◌-◌, ◌<◌, ◌≤◌, List, [], ◌∷◌, ◌++◌, length, take, drop, Some, slice_get, refl, sym, ap, ◌∙◌, length-drop, zero-mul, suc-mul, mul-le-mul, take_all, le_refl, add-one, arith}
-use Rattle.std.proofs.lemmas.List.{length-append, length-take, take-append-le, drop-append-le, drop-drop}
+use Rattle.std.proofs.Common.{◌≡◌, ℕ, zero, suc, ◌+◌, ◌*◌, ◌<◌, ◌≤◌, List, [], ◌∷◌, ◌++◌, length, take, drop, Some, slice_get, refl, sym, ap, ◌∙◌, length-drop, zero-mul, suc-mul, mul-le-mul, take_all, le_refl, add-one, arith}
+use Rattle.std.proofs.lemmas.List.{take-append-le, drop-append-le, drop-drop, take_more}
+use Rattle.std.proofs.lemmas.Option.{slice_get_within, get_or_from_slice_get}
 use Rattle.smc_meaning.specs.Rows.{RowList, rows_in}
+
+-- the rows so far, with one more
+pub take-next : (rows : List (List ℕ)) (place : ℕ) (row : List ℕ) → slice_get rows place ≡ Some row → take (place + 1) rows ≡ take place rows ++ row ∷ []
+take-next rows place row found =
+    take_more rows place row (slice_get_within rows place row found) ∙ ap (λ r. take place rows ++ r ∷ []) (get_or_from_slice_get rows place row row found)
 
 -- there are as many as are counted
 pub length-rows_in : (width count : ℕ) (words : List ℕ) → length (rows_in width count words) ≡ count
