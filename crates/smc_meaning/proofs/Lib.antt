@@ -1,8 +1,9 @@
 pub mod BoundLaws
 pub mod OperandLaws
+pub mod EditedLaws
 pub mod TreeSizes
 pub mod TextOrders
 pub mod SideLaws
 pub mod RowLaws
 pub mod GroupLaws
-pub mod EditedLaws
+pub mod SumLaws

@@ -88,7 +88,7 @@ divided (negsuc less) parts = neg_ℤ (pos (nearest_part (suc less) parts))
 
 -- the decimals of an average: those of its values, and two at least
 abbrev pub average_scale : ℕ → ℕ
-average_scale scale = max HUNDREDTHS scale
+average_scale scale = max scale HUNDREDTHS
 
 -- the average of values that have this scale
 abbrev pub average_of : ℕ → List Cell → Option Cell

@@ -7,6 +7,7 @@ pub mod Comparing
 pub mod Kept
 pub mod Edited
 pub mod Shown
+pub mod Summing
 pub mod Sorting
 pub mod Groups
 pub mod Answers

@@ -14,10 +14,10 @@ pub struct Decimal {
     pub scale: u32,
 }
 
-// Units, of which each becomes ten to this power.
-fn widened(units: i128, power: u32) -> i128
+/// Units, of which each becomes ten to this power.
+pub(crate) fn widened(units: i128, power: u32) -> i128
     requires few { power ≤ MAX_SCALE }
-    requires small { unsigned_abs units * 10 ^ power < SIZE_LIMIT }
+    requires small { unsigned_abs units * 10 ^ power < 2 ^ 127 }
     ensures { result ≡ units *ℤ pos (10 ^ power) }
 {
     units * i128::from(10u64.pow(power))

@@ -17,6 +17,7 @@ pub mod laws;
 mod leaf;
 mod rows;
 mod shown;
+mod summing;
 mod text;
 mod value;
 
@@ -24,7 +25,7 @@ pub use comparing::compare_rows;
 pub use decimal::Decimal;
 pub use editing::{Edited, edit};
 pub use filter::kept;
-pub use rows::Rows;
+pub use rows::{ROWS_MAX, Rows};
 pub use shown::{Shown, ShownText};
 pub use text::TextIn;
 pub use value::{Sort, day_at, number_at, sort_at, text_at};

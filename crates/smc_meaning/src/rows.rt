@@ -5,6 +5,9 @@ use smc_words::NoMemory;
 use std::alloc::Global;
 use std::marker::Model;
 
+/// No query sees more rows: no table has more than 2^28 objects.
+pub const ROWS_MAX: usize = 0x1000_0000;
+
 /// Rows that have the same number of words each. Contracts see that number, and the list of the rows.
 #[derive(Debug, Drop)]
 pub struct Rows {
