@@ -1,17 +1,19 @@
 //! Queries: the rows of the objects of a collection are gathered.
-ghost use Rattle.std.specs.Prelude.{◌≡◌, ◌<◌, IfOk, length};
+ghost use Rattle.std.specs.Prelude.{◌≡◌, ◌<◌, ◌≤◌, IfOk, length};
 ghost use Rattle.std.specs.List.{AllByRecursion};
 ghost use Rattle.smc_region.specs.Callers.{IsPassOf, IsSame};
 ghost use Rattle.smc_does.specs.Does.{DoesSome, OwnsNone};
 ghost use Rattle.smc_objects.specs.Alone.{InSection};
 ghost use Rattle.smc_plan.specs.Leaves.{leaves_words};
 ghost use Rattle.smc_plan.specs.Planned.{plan_tree};
+ghost use Rattle.smc_meaning.specs.declared.rows.TheConstants.{ROWS_MAX};
 ghost use Rattle.smc_visits.specs.Rows.{FitsRecord};
 ghost use Rattle.smc_exec.specs.Plans.{IsPlanned};
 ghost use Rattle.smc_exec.specs.Queries.{IsLong, ReadsRows};
 
 use crate::buffer::row_buffer;
 use crate::laws::queries_can_run;
+use smc_meaning::{ROWS_MAX, Rows};
 use smc_plan::Plan;
 use smc_region::{Pass, Region};
 use smc_visits::{Taken, scan_rows};
@@ -44,23 +46,40 @@ fn gather(
     }
 }
 
+// The same rows, as a query is answered over them.
+fn as_rows(alloc: Global, words: u32, taken: &Taken) -> Result<Rows, NoMemory>
+    requires long { AllByRecursion (λ row. length row ≡ words) taken.now.rows }
+    ensures same { IfOk result (λ rows. rows ≡ record { width = words; rows = taken.now.rows }) }
+    ensures few { IfOk result (λ rows. length rows.rows ≤ ROWS_MAX) }
+{
+    if taken.len() > ROWS_MAX {
+        return Err(NoMemory);
+    }
+    let mut rows = Rows::new(alloc, words as usize);
+    for place in 0..taken.len() {
+        rows.push(taken.row(place))?;
+    }
+    Ok(rows)
+}
+
 /// The rows of the objects of the collection that are whole, each the words of all leaves of the plan, in the order of a
 /// scan in a section of its own.
 ///
 /// # Errors
-/// Memory was refused. The pass is outside, and of the rows nothing is said.
+/// Memory was refused, or there are more rows than a query sees. The pass is outside, and of the rows nothing is said.
 pub fn query_rows(
     alloc: Global,
     plan: &Plan,
     pass: Pass,
     region: &Region,
     coll: u8,
-) -> (Pass, Result<Taken, NoMemory>)
+) -> (Pass, Result<Rows, NoMemory>)
     requires here { IsPassOf region.now pass }
     requires coll { coll < length pass.shape.colls }
     requires planned { IsPlanned (plan_tree plan.now) }
-    ensures done { IfOk result.1 (λ taken. DoesSome pass result.0 (InSection (ReadsRows pass.shape coll plan.now.leaves taken.rows))) }
-    ensures long { IfOk result.1 (λ taken. AllByRecursion (IsLong plan.now.leaves) taken.rows) }
+    ensures done { IfOk result.1 (λ rows. DoesSome pass result.0 (InSection (ReadsRows pass.shape coll plan.now.leaves rows.rows))) }
+    ensures width { IfOk result.1 (λ rows. rows.width ≡ leaves_words plan.now.leaves) }
+    ensures few { IfOk result.1 (λ rows. length rows.rows ≤ ROWS_MAX) }
     ensures home { IsSame pass result.0 }
     ensures free { OwnsNone pass → OwnsNone result.0 }
 {
@@ -69,5 +88,9 @@ pub fn query_rows(
         Ok(row) => row,
         Err(fault) => return (pass, Err(fault)),
     };
-    gather(alloc, plan, &mut row, pass, region, coll)
+    let (pass, gathered) = gather(alloc, plan, &mut row, pass, region, coll);
+    match gathered {
+        Ok(taken) => (pass, as_rows(alloc, plan.words(), &taken)),
+        Err(fault) => (pass, Err(fault)),
+    }
 }
