@@ -1,8 +1,7 @@
 -- A value is one of its expression's kind, and within the bounds of that.
-use Rattle.std.proofs.Common.{◌≡◌, ◌⊎◌, inl, inr, ℕ, ◌+◌, ◌*◌, ◌-◌, ◌^◌, ◌≤◌, ◌<◌, max, Bool, true, false, cond, ℤ, pos, negsuc, ◌+ℤ◌, ◌-ℤ◌, ◌*ℤ◌, neg_ℤ, ◌≤ℤ◌, unsigned_abs, IsTrue, nat_le, nat_lt, List, Option, None, Some, slice_get, slice_index, Result, Ok, Err, refl, sym, ap, ◌∙◌, subst, mul-le-mul, lit<, lit≤, arith, rules}
+use Rattle.std.proofs.Common.{◌≡◌, ℕ, ◌+◌, ◌*◌, ◌-◌, ◌^◌, ◌≤◌, max, Bool, true, false, cond, ℤ, pos, ◌+ℤ◌, ◌-ℤ◌, ◌*ℤ◌, neg_ℤ, ◌≤ℤ◌, unsigned_abs, IsTrue, nat_le, List, Option, None, Some, slice_get, slice_index, Result, Ok, Err, refl, sym, subst, mul-le-mul, arith, rules}
 use Rattle.std.proofs.lemmas.Int.{ints, clamps, unsigned_abs-mul}
 use Rattle.std.proofs.lemmas.Bool.Decides.{nat_tests}
-use Rattle.std.proofs.lemmas.Grind.{common_steps}
 use Rattle.smc_types.specs.Numbers.{moved_back, nearest}
 use Rattle.smc_types.specs.Rows as rows
 use Rattle.smc_types.specs.declared.column.FieldType.{FieldType}
@@ -17,10 +16,10 @@ use Rattle.smc_plan.specs.declared.fault.PlanFault.TheVariants.{Types, TooWide}
 use Rattle.smc_plan.specs.declared.kind.Extent.{Extent}
 use Rattle.smc_plan.specs.declared.kind.Kind.{Kind}
 use Rattle.smc_plan.specs.declared.kind.Kind.TheVariants.{Number, Day, Text}
-use Rattle.smc_plan.specs.declared.kind.TheConstants.{DAY_BOUND, MAX_SCALE, SIZE_LIMIT}
+use Rattle.smc_plan.specs.declared.kind.TheConstants.{DAY_BOUND}
 use Rattle.smc_plan.specs.declared.leaf.Leaf.{Leaf}
 use Rattle.smc_meaning.specs.Values.{Cell, number, day, text, cell_of, leaf_value, leaf_words, less, negative, plus, times, units_at, value_of}
-use Rattle.smc_plan.specs.Kinds.{day_kind, leaf_kind, kind_in}
+use Rattle.smc_plan.specs.Kinds.{leaf_kind, kind_in}
 use Rattle.smc_meaning.specs.Kinds.{HasExtent, IsOf, kind_of_both}
 
 -- ---- kinds
@@ -266,4 +265,3 @@ kind_within leaves (typed.product left right) kind gives =
 kind_within leaves (typed.minus of) kind gives =
     let from = from_is negated (kind_in leaves of) kind gives in
     moves kind from.one (negated_is from.one kind from.made_is) (kind_within leaves of from.one from.of_is)
-

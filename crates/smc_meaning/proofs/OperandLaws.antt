@@ -1,21 +1,21 @@
 -- What the operands of a number or a day are, and that they can be added and multiplied.
-use Rattle.std.proofs.Common.{◌≡◌, ℕ, ◌+◌, ◌*◌, ◌-◌, ◌^◌, ◌+ℤ◌, ◌-ℤ◌, ◌*ℤ◌, ◌≤◌, ◌<◌, max, Bool, true, false, cond, ◌&&◌, ℤ, unsigned_abs, IsTrue, nat_le, nat_lt, ◌==◌, List, Option, None, Some, slice_get, length, Result, Ok, Err, refl, sym, ap, ◌∙◌, subst, mul-le-mul, arith, rules}
+use Rattle.std.proofs.Common.{◌≡◌, ℕ, ◌+◌, ◌*◌, ◌+ℤ◌, ◌-ℤ◌, ◌*ℤ◌, ◌≤◌, ◌<◌, Bool, true, false, cond, ℤ, unsigned_abs, IsTrue, List, Option, None, Some, slice_get, Result, Ok, Err, refl, subst, mul-le-mul, arith}
 use Rattle.std.proofs.lemmas.Bool.Decides.{nat_tests}
 use Rattle.std.proofs.lemmas.Int.{unsigned_abs-mul}
 use Rattle.smc_types.specs.Cells.{is_number}
 use Rattle.smc_types.specs.declared.column.FieldType.{FieldType}
 use Rattle.smc_types.specs.declared.column.FieldType.TheVariants as of
-use Rattle.smc_plan.specs.Bounds.{added, bound_at, bounded, extent, is_extent, is_within, joined, kind_of, larger_scale, multiplied, negated}
+use Rattle.smc_plan.specs.Bounds.{added, bound_at, bounded, extent, is_within, joined, kind_of, larger_scale, multiplied, negated}
 use Rattle.smc_plan.specs.Typed as typed
 use Rattle.smc_plan.specs.Typed.{TypedTree}
 use Rattle.smc_plan.specs.declared.fault.PlanFault.{PlanFault}
 use Rattle.smc_plan.specs.declared.fault.PlanFault.TheVariants.{Types}
 use Rattle.smc_plan.specs.declared.kind.Extent.{Extent}
 use Rattle.smc_plan.specs.declared.kind.Kind.{Kind}
-use Rattle.smc_plan.specs.declared.kind.Kind.TheVariants.{Number, Day, Text}
+use Rattle.smc_plan.specs.declared.kind.Kind.TheVariants.{Number, Day}
 use Rattle.smc_plan.specs.declared.kind.TheConstants.{MAX_SCALE, SIZE_LIMIT}
 use Rattle.smc_plan.specs.declared.leaf.Leaf.{Leaf}
-use Rattle.smc_meaning.specs.Values.{Cell, number, day, units_at, value_of}
+use Rattle.smc_meaning.specs.Values.{Cell, day, units_at, value_of}
 use Rattle.smc_plan.specs.Kinds.{leaf_kind, kind_in}
 use Rattle.smc_meaning.specs.Kinds.{HasExtent, IsDay, IsNumber, IsOf, kind_of_both}
 use Rattle.smc_meaning.specs.Decimals.{CanAdd, CanMultiply, decimal_cell, larger_of, size_at}

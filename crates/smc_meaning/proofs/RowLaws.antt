@@ -1,6 +1,6 @@
 -- Rows that stand one behind the other.
-use Rattle.std.proofs.Common.{◌≡◌, ℕ, zero, suc, ◌+◌, ◌*◌, ◌-◌, ◌<◌, ◌≤◌, List, [], ◌∷◌, ◌++◌, length, take, drop, Some, slice_get, refl, sym, ap, ◌∙◌, length-drop, zero-mul, suc-mul, mul-le-mul, take_all, le_refl, add-one, arith}
-use Rattle.std.proofs.lemmas.List.{length-append, length-take, take-append-le, drop-append-le, drop-drop}
+use Rattle.std.proofs.Common.{◌≡◌, ℕ, zero, suc, ◌+◌, ◌*◌, ◌<◌, ◌≤◌, List, [], ◌∷◌, ◌++◌, length, take, drop, Some, slice_get, refl, sym, ap, ◌∙◌, length-drop, zero-mul, suc-mul, mul-le-mul, take_all, le_refl, add-one, arith}
+use Rattle.std.proofs.lemmas.List.{take-append-le, drop-append-le, drop-drop}
 use Rattle.smc_meaning.specs.Rows.{RowList, rows_in}
 
 -- there are as many as are counted

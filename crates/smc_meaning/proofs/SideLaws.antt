@@ -1,7 +1,6 @@
 -- The two sides of a comparison.
-use Rattle.std.proofs.Common.{◌≡◌, ℕ, ◌+◌, ◌*◌, ◌-◌, ◌<◌, max, Bool, true, false, cond, ◌&&◌, ℤ, unsigned_abs, IsTrue, nat_le, nat_lt, List, Option, None, Some, slice_get, Result, Ok, Err, refl, sym, ap, ◌∙◌, subst, arith, rules}
+use Rattle.std.proofs.Common.{◌≡◌, ℕ, ◌+◌, ◌*◌, ◌-◌, ◌<◌, max, Bool, true, false, cond, unsigned_abs, nat_le, List, Option, None, Some, slice_get, Result, Ok, Err, refl, sym, ap, ◌∙◌, arith}
 use Rattle.std.proofs.lemmas.Bool.Decides.{nat_tests}
-use Rattle.smc_plan.specs.Answers.{and_then}
 use Rattle.smc_plan.specs.Bounds.{added, are_narrow, bound_at, bounded, is_comparable, joined, kind_of, larger_scale, multiplied, negated, extent}
 use Rattle.smc_plan.specs.Typed as typed
 use Rattle.smc_plan.specs.Typed.{TypedTree}
@@ -10,15 +9,15 @@ use Rattle.smc_plan.specs.declared.fault.PlanFault.TheVariants.{Types, TooWide}
 use Rattle.smc_plan.specs.declared.kind.Extent.{Extent}
 use Rattle.smc_plan.specs.declared.kind.Kind.{Kind}
 use Rattle.smc_plan.specs.declared.kind.Kind.TheVariants.{Number, Day, Text}
-use Rattle.smc_plan.specs.declared.kind.TheConstants.{DAY_BOUND, MAX_SCALE, SIZE_LIMIT}
+use Rattle.smc_plan.specs.declared.kind.TheConstants.{DAY_BOUND, SIZE_LIMIT}
 use Rattle.smc_plan.specs.declared.leaf.Leaf.{Leaf}
 use Rattle.smc_plan.specs.Kinds.{AreCompared}
-use Rattle.smc_meaning.specs.Values.{Cell, value_of}
+use Rattle.smc_meaning.specs.Values.{value_of}
 use Rattle.smc_plan.specs.Kinds.{leaf_kind, kind_in}
 use Rattle.smc_meaning.specs.Kinds.{HasExtent, IsDay, IsNumber, IsText, sort_of, sort_of_kind, sort_of_leaf}
 use Rattle.smc_meaning.specs.declared.value.Sort.{Sort}
 use Rattle.smc_meaning.specs.declared.value.Sort.TheVariants.{Number as OfNumber, Day as OfDay, Text as OfText}
-use Rattle.smc_meaning.specs.Decimals.{CanMeet, decimal_cell, larger_of, size_at}
+use Rattle.smc_meaning.specs.Decimals.{CanMeet, decimal_cell, larger_of}
 use Rattle.smc_meaning.specs.declared.decimal.Decimal.{Decimal}
 use Rattle.smc_meaning.proofs.BoundLaws.{both_are, bounded_is, from_is}
 use Rattle.smc_meaning.proofs.OperandLaws.{decimal_has, IsLimited, number_limited, size_within}

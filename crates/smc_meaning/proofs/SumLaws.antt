@@ -1,5 +1,5 @@
 -- Sums of the rows of a group.
-use Rattle.std.proofs.Common.{◌≡◌, ℕ, suc, ◌+◌, ◌*◌, ◌/◌, ◌^◌, ◌<◌, ◌≤◌, to_z, of_z, ◌-ℤ◌, ℤ, pos, negsuc, ◌+ℤ◌, ◌<ℤ◌, ◌≤ℤ◌, neg_ℤ, unsigned_abs, List, [], ◌∷◌, ◌++◌, map, fold, take, Some, slice_get, Ok, refl, sym, ap, ◌∙◌, length, max, mul-le-mul, ◌*ℤ◌, ◌-◌, arith}
+use Rattle.std.proofs.Common.{◌≡◌, ℕ, suc, ◌+◌, ◌^◌, ◌<◌, ◌≤◌, to_z, of_z, ◌-ℤ◌, ℤ, pos, negsuc, ◌+ℤ◌, ◌<ℤ◌, ◌≤ℤ◌, neg_ℤ, unsigned_abs, List, [], ◌∷◌, ◌++◌, fold, take, Some, slice_get, refl, sym, ap, ◌∙◌, length, max, mul-le-mul, ◌*ℤ◌, ◌-◌, arith}
 use Rattle.std.specs.Int.{w128}
 use Rattle.std.proofs.lemmas.Int.{ints, unsigned_abs-mul}
 use Rattle.std.proofs.lemmas.List.{take_more}

@@ -1,5 +1,5 @@
 -- How large an expression is, by which its value is reckoned part by part.
-use Rattle.std.proofs.Common.{ℕ, suc, ◌+◌}
+use Rattle.std.proofs.Common.{ℕ, ◌+◌}
 use Rattle.smc_plan.specs.Typed.{TypedTree, number, day, text, leaf, sum, difference, product, minus}
 
 -- how many parts an expression has

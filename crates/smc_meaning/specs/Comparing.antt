@@ -1,5 +1,5 @@
 -- How values compare.
-use Rattle.std.specs.Prelude.{ℕ, max, List}
+use Rattle.std.specs.Prelude.{max}
 use Rattle.std.specs.Ordering.{int_cmp, nat_cmp}
 use Rattle.std.specs.declared.cmp.Ordering.{Ordering}
 use Rattle.std.specs.declared.cmp.Ordering.TheVariants.{Equal}

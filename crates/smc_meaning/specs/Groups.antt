@@ -1,5 +1,5 @@
 -- The groups of rows, and what is made of the rows of a group.
-use Rattle.std.specs.Prelude.{ℕ, suc, ◌+◌, ◌*◌, ◌/◌, max, Bool, false, not, if◌then◌else◌, ℤ, pos, negsuc, ◌+ℤ◌, neg_ℤ, List, [], ◌∷◌, ◌++◌, map, filter, fold, length, Option, None, Some, option_and_then, option_map, unwrap_or}
+use Rattle.std.specs.Prelude.{ℕ, suc, ◌+◌, ◌*◌, ◌/◌, max, Bool, true, false, if◌then◌else◌, ℤ, pos, negsuc, ◌+ℤ◌, neg_ℤ, List, [], ◌∷◌, ◌++◌, map, filter, fold, length, Option, None, Some, option_and_then, option_map, unwrap_or}
 use Rattle.std.specs.List.{list_any}
 use Rattle.std.specs.Ordering.{int_cmp, is_eq, is_lt, is_gt}
 use Rattle.std.specs.Cmp.Lexicographic.{pointwise}
@@ -7,11 +7,13 @@ use Rattle.smc_folds.specs.Kinds as folds
 use Rattle.smc_query.specs.Trees.{Aggregate, total, average, least, greatest}
 use Rattle.smc_plan.specs.Outputs.{OutputTree, count, aggregate, fold as fold_of}
 use Rattle.smc_plan.specs.Planned.{Planned}
-use Rattle.smc_plan.specs.Typed.{KindedTree, TypedTree, leaf}
+use Rattle.smc_plan.specs.Typed.{TypedTree, leaf}
 use Rattle.smc_plan.specs.declared.kind.Kind.{Kind}
 use Rattle.smc_plan.specs.declared.kind.Kind.TheVariants.{Number, Day, Text}
 use Rattle.smc_plan.specs.declared.kind.TheConstants.{HUNDREDTHS}
 use Rattle.smc_plan.specs.declared.leaf.Leaf.{Leaf}
+use Rattle.smc_meaning.specs.declared.extremes.End.{End}
+use Rattle.smc_meaning.specs.declared.extremes.End.TheVariants.{Least, Greatest}
 use Rattle.smc_meaning.specs.Comparing.{compare}
 use Rattle.smc_meaning.specs.Sorting.{sorted}
 use Rattle.smc_meaning.specs.Values.{Cell, number, day, text, units_at, value_of}
@@ -109,6 +111,11 @@ abbrev pub chosen_of : (Cell → Cell → Cell) → List Cell → Option Cell
 chosen_of choice [] = None
 chosen_of choice (cell ∷ cells) = Some (fold choice cell cells)
 
+-- which of two values stands nearer to an end of their order
+abbrev pub choice_of : End → Cell → Cell → Cell
+choice_of Least = lesser
+choice_of Greatest = greater
+
 -- an aggregate of values that have this scale
 abbrev pub aggregate_of : Aggregate → ℕ → List Cell → Option Cell
 aggregate_of total scale cells = Some (number (sum_of cells) scale)
@@ -134,3 +141,9 @@ abbrev pub shown : List folds.Kind → List Leaf → OutputTree → List (List �
 shown kinds leaves count rows = Some (number (pos (length rows)) 0)
 shown kinds leaves (aggregate call of) rows = aggregate_of call (scale_in of.kind) (values_of leaves of.typed rows)
 shown kinds leaves (fold_of name of) rows = folded kinds name (scale_in of.kind) (values_of leaves of.typed rows)
+
+-- whether an output column is no fold
+abbrev pub is_plain : OutputTree → Bool
+is_plain count = true
+is_plain (aggregate call of) = true
+is_plain (fold_of name of) = false

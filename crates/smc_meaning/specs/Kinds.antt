@@ -1,16 +1,14 @@
 -- What an expression of a plan is, read off from the expression.
-use Rattle.std.specs.Prelude.{◌≡◌, ⊤, ℕ, ◌≤◌, ℤ, unsigned_abs, nat_le, if◌then◌else◌, List, Option, None, Some, slice_get, Result, Ok, Err}
+use Rattle.std.specs.Prelude.{◌≡◌, ⊤, ℕ, ◌≤◌, ℤ, unsigned_abs, List, Option, None, Some, slice_get, Result, Ok}
 use Rattle.smc_plan.specs.Answers.{and_then}
-use Rattle.smc_plan.specs.Bounds.{added, bounded, extent, kind_of, multiplied, negated}
+use Rattle.smc_plan.specs.Bounds.{extent, kind_of}
 use Rattle.smc_plan.specs.Kinds.{kind_in}
 use Rattle.smc_plan.specs.Typed as typed
 use Rattle.smc_plan.specs.Typed.{TypedTree}
 use Rattle.smc_plan.specs.declared.fault.PlanFault.{PlanFault}
-use Rattle.smc_plan.specs.declared.fault.PlanFault.TheVariants.{Types, TooWide}
 use Rattle.smc_plan.specs.declared.kind.Extent.{Extent}
 use Rattle.smc_plan.specs.declared.kind.Kind.{Kind}
 use Rattle.smc_plan.specs.declared.kind.Kind.TheVariants.{Number, Day, Text}
-use Rattle.smc_plan.specs.declared.kind.TheConstants.{DAY_BOUND}
 use Rattle.smc_plan.specs.declared.leaf.Leaf.{Leaf}
 use Rattle.smc_meaning.specs.declared.value.Sort.{Sort}
 use Rattle.smc_meaning.specs.declared.value.Sort.TheVariants.{Number as OfNumber, Day as OfDay, Text as OfText}

@@ -1,13 +1,13 @@
--- What stands in an output column, as a value alone.
-use Rattle.std.specs.Prelude.{List, map, Option, None, Some}
-use Rattle.smc_meaning.specs.Decimals.{decimal_cell}
-use Rattle.smc_meaning.specs.Values.{Cell, day, text}
-use Rattle.smc_meaning.specs.declared.shown.Shown.{Shown}
-use Rattle.smc_meaning.specs.declared.shown.Shown.TheVariants.{Nothing, Number, Day, Text}
+-- What a column can show.
+use Rattle.std.specs.Prelude.{◌≡◌, true, ◌||◌, List, Ok}
+use Rattle.smc_plan.specs.Bounds.{is_number}
+use Rattle.smc_plan.specs.Kinds.{kind_in}
+use Rattle.smc_plan.specs.Typed.{TypedTree, is_leaf}
+use Rattle.smc_plan.specs.declared.kind.Kind.{Kind}
+use Rattle.smc_plan.specs.declared.leaf.Leaf.{Leaf}
 
--- the value, where there is one
-abbrev pub shown_cell : Shown → Option Cell
-shown_cell Nothing = None
-shown_cell (Number decimal) = Some (decimal_cell decimal)
-shown_cell (Day days) = Some (day days)
-shown_cell (Text bytes) = Some (text bytes)
+-- the expression is a number or a path
+pub record IsShowable (leaves : List Leaf) (of : TypedTree) : Type 0 where
+  pub kind : Kind
+  pub kind_is : kind_in leaves of ≡ Ok kind
+  pub fits : (is_number kind || is_leaf of) ≡ true

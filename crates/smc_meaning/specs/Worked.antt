@@ -1,5 +1,5 @@
 -- Answers over a few rows.
-use Rattle.std.specs.Prelude.{◌≡◌, ℕ, ◌+◌, ℤ, pos, neg_ℤ, false, true, List, [], ◌∷◌, codes, map, Option, None, Some}
+use Rattle.std.specs.Prelude.{◌≡◌, ℕ, ℤ, pos, neg_ℤ, false, true, List, [], ◌∷◌, codes, map, Option, None, Some}
 use Rattle.smc_query.specs.Trees.{total, average, least, greatest}
 use Rattle.smc_types.specs.Numbers.{moved}
 use Rattle.smc_types.specs.Texts.{text_words}
@@ -14,7 +14,7 @@ use Rattle.smc_plan.specs.Typed.{KindedTree, leaf}
 use Rattle.smc_plan.specs.declared.leaf.Leaf.{Leaf}
 use Rattle.smc_plan.specs.declared.plan.OrderKey.{OrderKey}
 use Rattle.smc_meaning.specs.Answers.{Columns, answer_of}
-use Rattle.smc_meaning.specs.Values.{Cell, number, day, text}
+use Rattle.smc_meaning.specs.Values.{number, text}
 
 -- a leaf of this type
 abbrev leaf_of : FieldType → Leaf

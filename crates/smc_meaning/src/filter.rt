@@ -35,7 +35,10 @@ pub(crate) fn meets(leaves: &[Leaf], condition: &TypedCond, row: &[u64]) -> bool
         TypedCond::Or(left, right) => meets(leaves, left, row) || meets(leaves, right, row),
         TypedCond::And(left, right) => meets(leaves, left, row) && meets(leaves, right, row),
         TypedCond::Not(of) => !meets(leaves, of, row),
-        TypedCond::Compare { op, left, right } => holds(*op, compare_at(leaves, left, row, right, row)),
+        TypedCond::Compare { op, left, right } => holds(
+            *op,
+            compare_at(leaves, left, row, right, row),
+        ),
         TypedCond::Between { value, low, high } => {
             compare_at(leaves, value, row, low, row).is_ge()
                 && compare_at(leaves, value, row, high, row).is_le()

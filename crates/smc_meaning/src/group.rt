@@ -41,8 +41,7 @@ fn same_values(leaves: &[Leaf], places: &[usize], one: &[u64], other: &[u64]) ->
         None => true,
         Some((place, rest)) => {
             let leaf = Typed::Leaf(*place);
-            compare_rows(leaves, &leaf, one, other).is_eq()
-                && same_values(leaves, rest, one, other)
+            compare_rows(leaves, &leaf, one, other).is_eq() && same_values(leaves, rest, one, other)
         }
     }
 }

@@ -1,31 +1,46 @@
 //! What a query means: the definition of its answer over rows, and a plain evaluator that gives it.
 //!
-//! `decimal` has numbers with decimals, and `value` gives the value of an expression in a row. A row is the words of all
-//! leaves of a plan, one leaf behind the other. Below stand `smc_plan` with plans and `smc_types` with columns; above, the
-//! crates that answer queries fast, whose answers are those of the definitions here.
+//! A row is the words of all leaves of a plan, one leaf behind the other; `rows` keeps many of them, and `leaf` finds a leaf in
+//! one. `value` gives the value of an expression in a row, `decimal` has its numbers and `text` its texts; `comparing` compares
+//! values, `filter` says whether a plan keeps a row, and `group` finds the rows that are kept and those of each group. `summing`
+//! has sums and averages, `extremes` the least and the greatest, `output` what a column shows of a group, as `shown` has it, and
+//! `laws` the theorems over the definitions. Below stand `smc_plan` with plans and `smc_types` with columns; above, the crates
+//! that answer queries fast, whose answers are those of the definitions here.
 //!
-//! The value of an expression is defined in `specs/Values.antt`, and what an expression is in `Kinds.antt`.
-//! What an edit does with a row is said by `editing`, and defined in `Edited.antt`.
+//! `cell` has the columns of an answer, `answer` its rows and its text, and `order` the order of rows. `editing` says what an edit
+//! does with a row.
+//!
+//! The value of an expression is defined in `specs/Values.antt`, how values compare in `Comparing.antt`, the rows that are kept in
+//! `Kept.antt`, groups and aggregates in `Groups.antt`, and the answer of a plan in `Answers.antt`; the order of rows stands in
+//! `Orders.antt`, the text of an answer in `Printed.antt`, and what an edit does in `Edited.antt`. `Worked.antt` has answers over a
+//! few rows.
 #![tactic(auto)]
 
+mod answer;
+mod cell;
 mod comparing;
 mod decimal;
 mod editing;
+mod extremes;
 mod filter;
 mod group;
 pub mod laws;
 mod leaf;
+mod order;
+mod output;
 mod rows;
 mod shown;
 mod summing;
 mod text;
 mod value;
 
+pub use answer::{Answer, AnswerRow};
+pub use cell::{Cell, ShownText};
 pub use comparing::compare_rows;
 pub use decimal::Decimal;
 pub use editing::{Edited, edit};
+pub use extremes::End;
 pub use filter::kept;
 pub use rows::{ROWS_MAX, Rows};
-pub use shown::{Shown, ShownText};
 pub use text::TextIn;
 pub use value::{Sort, day_at, number_at, sort_at, text_at};

@@ -4,14 +4,14 @@ ghost use Rattle.smc_plan.specs.Leaves.{leaves_words};
 ghost use Rattle.smc_plan.specs.Typed.{typed_tree};
 ghost use Rattle.smc_plan.specs.declared.kind.TheConstants.{SIZE_LIMIT};
 ghost use Rattle.smc_meaning.specs.Groups.{aggregate_of, divided, nearest_part, scale_in, sum_of, values_of};
-ghost use Rattle.smc_meaning.specs.Shown.{shown_cell};
+ghost use Rattle.smc_meaning.specs.Cells.{column_seen};
 ghost use Rattle.smc_query.specs.Trees.{average, total as sum'};
 ghost use Rattle.smc_meaning.specs.Summing.{IsSummable};
 ghost use Rattle.smc_meaning.specs.declared.rows.TheConstants.{ROWS_MAX};
 
 use crate::decimal::widened;
 use crate::value::number_at;
-use crate::{Decimal, Rows, Shown};
+use crate::{Cell, Decimal, Rows};
 use smc_plan::{HUNDREDTHS, Kind, Kinded, Leaf, Typed};
 
 // Units and units.
@@ -71,33 +71,33 @@ fn scale_in(kind: Kind) -> u32
 }
 
 /// The sum of an expression in the rows of a group.
-pub(crate) fn sum_shown(leaves: &[Leaf], of: &Kinded, rows: &Rows) -> Shown
+pub(crate) fn sum_shown(leaves: &[Leaf], of: &Kinded, rows: &Rows) -> Option<Cell>
     requires words { rows.now.width ≡ leaves_words leaves.now }
     requires count { length rows.now.rows ≤ ROWS_MAX }
     requires summable { IsSummable leaves.now (typed_tree of.now.typed) }
-    ensures { shown_cell result ≡ aggregate_of sum' (scale_in of.now.kind) (values_of leaves.now (typed_tree of.now.typed) rows.now.rows) }
+    ensures { column_seen result ≡ aggregate_of sum' (scale_in of.now.kind) (values_of leaves.now (typed_tree of.now.typed) rows.now.rows) }
 {
-    Shown::Number(Decimal {
+    Some(Cell::Number(Decimal {
         units: total(leaves, &of.typed, rows),
         scale: scale_in(of.kind),
-    })
+    }))
 }
 
 /// The average of an expression in the rows of a group.
-pub(crate) fn average_shown(leaves: &[Leaf], of: &Kinded, rows: &Rows) -> Shown
+pub(crate) fn average_shown(leaves: &[Leaf], of: &Kinded, rows: &Rows) -> Option<Cell>
     requires words { rows.now.width ≡ leaves_words leaves.now }
     requires count { length rows.now.rows ≤ ROWS_MAX }
     requires summable { IsSummable leaves.now (typed_tree of.now.typed) }
-    ensures { shown_cell result ≡ aggregate_of average (scale_in of.now.kind) (values_of leaves.now (typed_tree of.now.typed) rows.now.rows) }
+    ensures { column_seen result ≡ aggregate_of average (scale_in of.now.kind) (values_of leaves.now (typed_tree of.now.typed) rows.now.rows) }
 {
     if rows.len() == 0 {
-        return Shown::Nothing;
+        return None;
     }
     let scale = scale_in(of.kind);
     let places = scale.max(HUNDREDTHS);
     let units = widened(total(leaves, &of.typed, rows), places - scale);
-    Shown::Number(Decimal {
+    Some(Cell::Number(Decimal {
         units: divided(units, rows.len()),
         scale: places,
-    })
+    }))
 }

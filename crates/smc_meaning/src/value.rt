@@ -9,9 +9,8 @@ ghost use Rattle.smc_meaning.specs.Kinds.{IsDay, IsNumber, IsText, sort_of};
 ghost use Rattle.smc_meaning.specs.Decimals.{decimal_cell};
 ghost use Rattle.smc_meaning.specs.Texts.{IsWhole, bytes_in};
 
-use crate::Decimal;
-use crate::TextIn;
 use crate::leaf::{column_day, column_number, column_text, leaf_words};
+use crate::{Decimal, TextIn};
 use smc_plan::{Leaf, Typed};
 use smc_types::FieldType;
 

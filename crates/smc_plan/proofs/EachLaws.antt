@@ -1,7 +1,7 @@
 -- Parts that are made of a list, from its front as far as a place.
 use Rattle.std.proofs.Common.{◌≡◌, ◌⊎◌, ℕ, ◌+◌, ◌<◌, ◌≤◌, List, [], ◌∷◌, ◌++◌, length, drop, get_or, map, Result, Ok, Err, refl, sym, ap, ◌∙◌, inl, inr, append_assoc, append-nil}
 use Rattle.std.proofs.lemmas.List.{drop_more, drop_all}
-use Rattle.smc_plan.specs.Answers.{and_then, Answers}
+use Rattle.smc_plan.specs.Answers.{and_then}
 use Rattle.smc_plan.specs.Planning.{Made, Planning, given, made, each}
 use Rattle.smc_plan.specs.declared.fault.PlanFault.{PlanFault}
 use Rattle.smc_plan.specs.declared.fault.PlanFault.TheVariants.{NoMemory}

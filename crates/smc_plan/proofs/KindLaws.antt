@@ -1,11 +1,11 @@
 -- The parts of a plan are what they are said to be, whatever leaves come behind.
-use Rattle.std.proofs.Common.{◌≡◌, ℕ, zero, suc, ◌+◌, ◌<◌, ◌≤◌, ◌==◌, ◌&&◌, Bool, true, false, cond, List, [], ◌∷◌, ◌++◌, length, get_or, Option, Some, None, Result, Ok, Err, refl, sym, ap, ◌∙◌, subst, append_assoc, append-nil, arith, ℤ, unsigned_abs}
-use Rattle.std.specs.List.{position, slice_get}
+use Rattle.std.proofs.Common.{◌≡◌, ℕ, zero, suc, ◌≤◌, ◌==◌, ◌&&◌, Bool, true, false, List, [], ◌∷◌, ◌++◌, length, get_or, Option, Some, None, Result, Ok, Err, refl, sym, ap, ◌∙◌, subst, append_assoc, arith, ℤ, unsigned_abs}
+use Rattle.std.specs.List.{slice_get}
 use Rattle.std.proofs.lemmas.Bool.{cond-true, le-leb}
 use Rattle.std.proofs.lemmas.Bool.Decides.{nat_tests}
 use Rattle.std.proofs.lemmas.Int.{ints}
 use Rattle.std.proofs.lemmas.List.Quantifiers.{position-Some}
-use Rattle.std.proofs.lemmas.Option.{slice_get_read, slice_get-get_or}
+use Rattle.std.proofs.lemmas.Option.{slice_get-get_or}
 use Rattle.smc_query.specs.Trees.{PathTree, ExprTree, CondTree}
 use Rattle.smc_query.specs.Trees as query
 use Rattle.smc_query.specs.declared.cond.Op.{Op}
@@ -23,7 +23,7 @@ use Rattle.smc_plan.specs.Exprs.{has_date, kinded, kinded_by, sum_typed, differe
 use Rattle.smc_plan.specs.Kinds.{AreCompared, IsKinded, IsTyped, day_kind, kind_in, leaf_kind}
 use Rattle.smc_plan.specs.Leaves.{leaf_of, place_of, same_hops, same_leaf, same_type}
 use Rattle.smc_plan.specs.Planning.{Made, Planning, ◌>>=◌, given, made, placed, placed_at}
-use Rattle.smc_plan.specs.Typed.{KindedTree, TypedTree, number, day, text, leaf, sum, difference, product, minus}
+use Rattle.smc_plan.specs.Typed.{KindedTree, TypedTree, number, day, sum, difference, product, minus}
 use Rattle.smc_plan.specs.declared.fault.PlanFault.{PlanFault}
 use Rattle.smc_plan.specs.declared.fault.PlanFault.TheVariants.{Types}
 use Rattle.smc_plan.specs.declared.kind.Kind.{Kind}

@@ -6,4 +6,3 @@ pub mod LeafLaws
 pub mod GrowLaws
 pub mod KindLaws
 pub mod PlanLaws
-pub mod ValueLaws

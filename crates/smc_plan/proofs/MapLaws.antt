@@ -1,5 +1,5 @@
 -- Tests over the elements of a list that is seen in another way.
-use Rattle.std.proofs.Common.{◌≡◌, ℕ, ◌+◌, Bool, not, cond, ◌||◌, List, [], ◌∷◌, length, map, refl, ap, ◌∙◌}
+use Rattle.std.proofs.Common.{◌≡◌, ◌+◌, Bool, not, cond, ◌||◌, List, [], ◌∷◌, map, refl, ap}
 use Rattle.std.specs.List.{list_any, prefix_len, position}
 use Rattle.std.proofs.lemmas.List.{length-map}
 

@@ -1,6 +1,6 @@
 -- All parts of a plan are what they are said to be.
-use Rattle.std.proofs.Common.{◌≡◌, ℕ, suc, ◌+◌, ◌<◌, ◌≤◌, ◌||◌, Bool, true, false, List, [], ◌∷◌, ◌++◌, length, get_or, Option, Some, None, Result, Ok, Err, refl, sym, ap, ◌∙◌, subst, append-nil, arith, length-append}
-use Rattle.std.specs.List.{AllByRecursion, position}
+use Rattle.std.proofs.Common.{◌≡◌, ℕ, suc, ◌+◌, ◌<◌, ◌||◌, true, List, [], ◌∷◌, ◌++◌, length, Option, Some, None, Result, Ok, refl, sym, ap, ◌∙◌, subst, append-nil, arith, length-append}
+use Rattle.std.specs.List.{AllByRecursion}
 use Rattle.std.specs.Option.{IfSome, option_map, option_or}
 use Rattle.std.proofs.lemmas.List.Quantifiers.{position-Some}
 use Rattle.smc_query.specs.Trees.{Word, PathTree, ExprTree, CondTree, CallTree, ItemTree, KeyTree, QueryTree, Aggregate, total, average, least, greatest}
@@ -9,17 +9,17 @@ use Rattle.smc_types.specs.declared.catalog.Catalog.{Catalog}
 use Rattle.smc_plan.specs.Answers.{and_then}
 use Rattle.smc_plan.specs.Bounds.{is_narrow_in, is_number, is_summable, is_taken_by, kind_of}
 use Rattle.smc_plan.specs.Conditions.{ConditionTree}
-use Rattle.smc_plan.specs.Conds.{typed_cond, where_fit}
-use Rattle.smc_plan.specs.Edits.{PlannedEdit, edited_field, edited_parts, planned_edit, written}
+use Rattle.smc_plan.specs.Conds.{typed_cond}
+use Rattle.smc_plan.specs.Edits.{PlannedEdit, edited_field, edited_parts, written}
 use Rattle.smc_plan.specs.Exprs.{typed_expr}
-use Rattle.smc_plan.specs.Items.{aggregated, argument, folded, known, ordered, planned_call, planned_item, summed}
+use Rattle.smc_plan.specs.Items.{aggregated, argument, folded, known, planned_call, planned_item}
 use Rattle.smc_plan.specs.Kinds.{IsEdit, IsKey, IsKinded, IsOutput, IsPlace, IsPlan, IsTyped}
 use Rattle.smc_plan.specs.Laws.{EditsAreTyped, QueriesAreTyped}
 use Rattle.smc_plan.specs.Leaves.{leaf_of, place_of, same_leaf}
 use Rattle.smc_plan.specs.Orders.{by_place, key_by, key_column, label_place, order_key, same_path, spells}
 use Rattle.smc_plan.specs.Outputs.{OutputTree, count, aggregate, fold}
-use Rattle.smc_plan.specs.Planned.{Planned, placed_path, placed_paths, planned, planned_filter, planned_items, planned_key, planned_keys, planned_parts, table_or_fault, with_leaves}
-use Rattle.smc_plan.specs.Planning.{Made, Planning, ◌>>=◌, each, given, made, placed, placed_at}
+use Rattle.smc_plan.specs.Planned.{Planned, placed_path, placed_paths, planned_filter, planned_items, planned_key, planned_keys, planned_parts, table_or_fault, with_leaves}
+use Rattle.smc_plan.specs.Planning.{Planning, each, given, made, placed, placed_at}
 use Rattle.smc_plan.specs.Tables.{table_named}
 use Rattle.smc_plan.specs.Typed.{KindedTree, is_leaf}
 use Rattle.smc_plan.specs.declared.fault.PlanFault.{PlanFault}

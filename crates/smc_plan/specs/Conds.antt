@@ -1,10 +1,9 @@
 -- What a condition of a query comes to in a plan.
-use Rattle.std.specs.Prelude.{ℕ, Bool, ◌&&◌, if◌then◌else◌, List, Result, Ok, Err}
+use Rattle.std.specs.Prelude.{ℕ, Bool, ◌&&◌, if◌then◌else◌, Result, Ok, Err}
 use Rattle.smc_query.specs.Trees.{CondTree}
 use Rattle.smc_query.specs.Trees as query
 use Rattle.smc_query.specs.declared.cond.Op.{Op}
 use Rattle.smc_types.specs.declared.catalog.Catalog.{Catalog}
-use Rattle.smc_plan.specs.Answers.{and_then}
 use Rattle.smc_plan.specs.Bounds.{is_comparable, are_narrow}
 use Rattle.smc_plan.specs.Conditions.{ConditionTree, either, both, negation, comparison, within}
 use Rattle.smc_plan.specs.Exprs.{typed_expr}

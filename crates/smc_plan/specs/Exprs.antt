@@ -1,5 +1,5 @@
 -- What an expression of a query comes to in a plan.
-use Rattle.std.specs.Prelude.{ℕ, ◌≤◌, Bool, ◌&&◌, nat_le, if◌then◌else◌, List, Result, Ok, Err}
+use Rattle.std.specs.Prelude.{ℕ, Bool, ◌&&◌, nat_le, if◌then◌else◌, List, Result, Ok, Err}
 use Rattle.smc_query.specs.Trees.{PathTree, ExprTree}
 use Rattle.smc_query.specs.Trees as query
 use Rattle.smc_types.specs.Calendar.{day_number, days_in_month}
@@ -16,7 +16,6 @@ use Rattle.smc_plan.specs.declared.fault.PlanFault.TheVariants.{Types}
 use Rattle.smc_plan.specs.declared.kind.Kind.{Kind}
 use Rattle.smc_plan.specs.declared.kind.Kind.TheVariants.{Number, Day, Text}
 use Rattle.smc_plan.specs.declared.kind.TheConstants.{DAY_BOUND}
-use Rattle.smc_plan.specs.declared.leaf.Leaf.{Leaf}
 
 -- an expression of this kind
 abbrev pub kinded : TypedTree → Kind → KindedTree

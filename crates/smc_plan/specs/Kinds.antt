@@ -1,5 +1,5 @@
 -- What the parts of a plan are, read off from the parts and the leaves alone.
-use Rattle.std.specs.Prelude.{◌≡◌, ⊤, ℕ, ◌+◌, ◌<◌, ℤ, unsigned_abs, Bool, true, nat_le, if◌then◌else◌, List, length, Option, Some, None, IfSome, slice_get, Result, Ok, Err}
+use Rattle.std.specs.Prelude.{◌≡◌, ⊤, ℕ, ◌+◌, ◌<◌, ℤ, unsigned_abs, true, nat_le, if◌then◌else◌, List, length, Option, Some, None, IfSome, slice_get, Result, Ok, Err}
 use Rattle.std.specs.List.{AllByRecursion}
 use Rattle.smc_plan.specs.Answers.{and_then}
 use Rattle.smc_plan.specs.Bounds.{added, are_narrow, bounded, extent, is_comparable, is_narrow_in, is_number, is_taken_by, kind_of, multiplied, negated}

@@ -13,6 +13,5 @@ pub mod Orders
 pub mod Planned
 pub mod Edits
 pub mod Kinds
-pub mod Values
 pub mod Laws
 pub mod Worked

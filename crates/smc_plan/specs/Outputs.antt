@@ -1,5 +1,4 @@
 -- Output columns of a plan as trees alone, without where in memory their parts stand.
-use Rattle.std.specs.Prelude.{ℕ, List}
 use Rattle.smc_query.specs.Trees.{Word, Aggregate, total, average, least, greatest}
 use Rattle.smc_plan.specs.Typed.{KindedTree, kinded_tree}
 use Rattle.smc_plan.specs.declared.output.Output.{Output}

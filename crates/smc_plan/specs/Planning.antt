@@ -1,5 +1,5 @@
 -- How the parts of a plan are made one after another, each from the leaves of those before it.
-use Rattle.std.specs.Prelude.{ℕ, List, [], ◌∷◌, ◌++◌, length, Option, Some, None, Result, Ok, Err}
+use Rattle.std.specs.Prelude.{ℕ, List, [], ◌∷◌, ◌++◌, length, Option, Some, None, Result, Ok}
 use Rattle.smc_plan.specs.Answers.{and_then}
 use Rattle.smc_plan.specs.Leaves.{place_of}
 use Rattle.smc_plan.specs.declared.fault.PlanFault.{PlanFault}

@@ -1,5 +1,5 @@
 -- Worked queries over the tables of TPC-H, with their plans or their faults.
-use Rattle.std.specs.Prelude.{◌≡◌, ℕ, Bool, true, false, List, [], ◌∷◌, map, codes, pos, Option, Some, None, Result, Ok, Err}
+use Rattle.std.specs.Prelude.{◌≡◌, ℕ, true, false, List, [], ◌∷◌, map, codes, pos, Some, None, Result, Ok, Err}
 use Prim.Native.String.{String}
 use Rattle.smc_query.specs.Trees.{Word, PathTree, ExprTree, CondTree, CallTree, ItemTree, KeyTree, QueryTree, total}
 use Rattle.smc_query.specs.Trees as query
@@ -11,15 +11,14 @@ use Rattle.smc_types.specs.declared.tables.TheConstants.{CUSTOMER, ORDERS, LINEI
 use Rattle.smc_plan.specs.Bounds.{extent}
 use Rattle.smc_plan.specs.Conditions.{both, comparison, within}
 use Rattle.smc_plan.specs.Exprs.{kinded}
-use Rattle.smc_plan.specs.Outputs.{OutputTree, aggregate}
+use Rattle.smc_plan.specs.Outputs.{aggregate}
 use Rattle.smc_plan.specs.Planned.{Planned, planned}
-use Rattle.smc_plan.specs.Typed.{TypedTree, number, day, text, leaf, difference, product}
+use Rattle.smc_plan.specs.Typed.{number, day, text, leaf, difference, product}
 use Rattle.smc_plan.specs.declared.fault.PlanFault.{PlanFault}
 use Rattle.smc_plan.specs.declared.fault.PlanFault.TheVariants.{NoTable, NoField, Types, Path, TooWide}
 use Rattle.smc_plan.specs.declared.kind.Kind.TheVariants.{Number}
 use Rattle.smc_plan.specs.declared.leaf.Hop.{Hop}
 use Rattle.smc_plan.specs.declared.leaf.Leaf.{Leaf}
-use Rattle.smc_plan.specs.declared.plan.OrderKey.{OrderKey}
 
 -- a path from its names
 abbrev pub path : List String → PathTree
@@ -128,6 +127,7 @@ forecast_plan = record {
   first = None;
 }
 
+-- the forecast has its plan
 abbrev pub PlansForecast : Type 0
 PlansForecast = Comes forecast_query (Ok forecast_plan)
 
@@ -175,5 +175,6 @@ shipping_plan = record {
   first = Some 10;
 }
 
+-- the orders of a market have theirs
 abbrev pub PlansShipping : Type 0
 PlansShipping = Comes shipping_query (Ok shipping_plan)

@@ -64,7 +64,8 @@ pub(crate) fn typed_cond(
     leaves: &mut Leaves,
     cond: &Cond,
 ) -> Result<TypedCond, PlanFault>
-    ensures { Answers (λ typed. made leaves.new (condition_tree typed)) result (typed_cond catalog.now table (cond_tree cond.now) leaves.old) }
+    ensures { Answers (λ typed. made leaves.new (condition_tree typed)) result
+        (typed_cond catalog.now table (cond_tree cond.now) leaves.old) }
 {
     match cond {
         Cond::Or(left, right) => {

@@ -88,7 +88,8 @@ fn edited_parts(
     value: &Expr,
     filter: Option<&Cond>,
 ) -> Result<EditPlan, PlanFault>
-    ensures { Answers edit_tree result (and_then (edited_parts catalog.now field (expr_tree value.now) (filter_tree (option_copied filter.entry)) []) (λ all. Ok all.part)) }
+    ensures { Answers edit_tree result
+        (and_then (edited_parts catalog.now field (expr_tree value.now) (filter_tree (option_copied filter.entry)) []) (λ all. Ok all.part)) }
 {
     let mut leaves = Leaves::new(alloc);
     let typed = typed_expr(alloc, catalog, field.table, &mut leaves, value)?;
@@ -111,8 +112,10 @@ pub fn plan_edit(
     filter: Option<&Cond>,
     catalog: &Catalog,
 ) -> Result<EditPlan, PlanFault>
-    ensures done { IfOk result (λ plan. planned_edit catalog.now table.now field.now (expr_tree value.now) (filter_tree (option_copied filter.entry)) ≡ Ok (edit_tree plan)) }
-    ensures fault { IfErr result (λ fault. (fault ≡ NoMemory) ⊎ (planned_edit catalog.now table.now field.now (expr_tree value.now) (filter_tree (option_copied filter.entry)) ≡ Err fault)) }
+    ensures done { IfOk result (λ plan.
+        planned_edit catalog.now table.now field.now (expr_tree value.now) (filter_tree (option_copied filter.entry)) ≡ Ok (edit_tree plan)) }
+    ensures fault { IfErr result (λ fault. (fault ≡ NoMemory)
+        ⊎ (planned_edit catalog.now table.now field.now (expr_tree value.now) (filter_tree (option_copied filter.entry)) ≡ Err fault)) }
 {
     let Some(table) = table_named(catalog, table) else {
         return Err(PlanFault::NoTable);

@@ -63,7 +63,8 @@ fn field_typed(
     leaves: &mut Leaves,
     path: &Path,
 ) -> Result<Kinded, PlanFault>
-    ensures gives { Answers (λ field. made leaves.new (kinded_tree field)) result (exprs.field_typed catalog.now table (path_tree path.now) leaves.old) }
+    ensures gives { Answers (λ field. made leaves.new (kinded_tree field)) result
+        (exprs.field_typed catalog.now table (path_tree path.now) leaves.old) }
     ensures within { IfOk result (λ made. IsTrue (is_within made.kind)) }
 {
     let leaf = leaf_of(alloc, catalog, table, path)?;
@@ -126,7 +127,8 @@ pub(crate) fn typed_expr(
     leaves: &mut Leaves,
     expr: &Expr,
 ) -> Result<Kinded, PlanFault>
-    ensures gives { Answers (λ typed. made leaves.new (kinded_tree typed)) result (typed_expr catalog.now table (expr_tree expr.now) leaves.old) }
+    ensures gives { Answers (λ typed. made leaves.new (kinded_tree typed)) result
+        (typed_expr catalog.now table (expr_tree expr.now) leaves.old) }
     ensures within { IfOk result (λ typed. IsTrue (is_within typed.kind)) }
 {
     match expr {

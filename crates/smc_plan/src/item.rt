@@ -83,7 +83,8 @@ fn planned_call(
     leaves: &mut Leaves,
     call: &ItemCall,
 ) -> Result<Output, PlanFault>
-    ensures { Answers (λ output. made leaves.new (output_tree output)) result (planned_call catalog.now (names_of folds.now) table (call_tree call.now) leaves.old) }
+    ensures { Answers (λ output. made leaves.new (output_tree output)) result
+        (planned_call catalog.now (names_of folds.now) table (call_tree call.now) leaves.old) }
 {
     match call {
         ItemCall::Count => Ok(Output::Count),
@@ -122,7 +123,8 @@ pub(crate) fn planned_items(
     leaves: &mut Leaves,
     items: &[Item],
 ) -> Result<Vec<Output>, PlanFault>
-    ensures { Answers (λ outputs. made leaves.new (output_trees outputs.items)) result (planned_items catalog.now (names_of folds.now) table (map item_tree items.now) leaves.old) }
+    ensures { Answers (λ outputs. made leaves.new (output_trees outputs.items)) result
+        (planned_items catalog.now (names_of folds.now) table (map item_tree items.now) leaves.old) }
 {
     let mut outputs = Vec::new(alloc);
     for item in items {

@@ -63,7 +63,8 @@ pub(crate) fn kind_of(field: FieldType) -> Kind
 
 /// A number of this extent, where it is within the limits. A bound that is none is more than a `u128` counts.
 pub(crate) fn bounded_number(scale: u32, bound: Option<u128>) -> Result<Kind, PlanFault>
-    ensures kind { (exact : ℕ) → IsBound bound exact → result ≡ bounded (Number (record { scale = scale; bound = exact })) }
+    ensures kind { (exact : ℕ) → IsBound bound exact
+        → result ≡ bounded (Number (record { scale = scale; bound = exact })) }
     ensures within { IfOk result (λ kind. IsTrue (is_within kind)) }
 {
     match bound {

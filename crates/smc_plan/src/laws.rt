@@ -1,5 +1,5 @@
 //! What plans are worth, as theorems over the definitions: functions with no body, whose clauses are the laws.
-ghost use Rattle.smc_plan.specs.Laws.{BroughtAreBounded, EditsAreTyped, EditsDiffer, QueriesAreTyped, QueriesDiffer, ValuesAreBounded};
+ghost use Rattle.smc_plan.specs.Laws.{EditsAreTyped, EditsDiffer, QueriesAreTyped, QueriesDiffer};
 ghost use Rattle.smc_plan.specs.Worked.{EndsInReference, FaultsInOrder, FollowsName, LacksField, LacksFold, LacksTable, PlansForecast, PlansShipping, SumsSquares, SumsText};
 
 use smc_types::laws::a_text_says_a_day_in_range;
@@ -32,10 +32,3 @@ pub fn parts_are_typed()
 {
     a_text_says_a_day_in_range();
 }
-
-/// Each value of an expression is within the bound of its kind, and no number reaches the limit, also where it is brought to a
-/// scale at which it is within the limit.
-pub fn values_are_bounded()
-    ensures values { ValuesAreBounded }
-    ensures brought { BroughtAreBounded }
-{}

@@ -85,7 +85,8 @@ pub(crate) fn order_keys(
     items: &[Item],
     keys: &[SortKey],
 ) -> Result<Vec<OrderKey>, PlanFault>
-    ensures { (leaves : List Leaf) → Answers (λ keys. made leaves keys.items) result (planned_keys (map path_tree by.now) (map item_tree items.now) (map key_tree keys.now) leaves) }
+    ensures { (leaves : List Leaf) → Answers (λ keys. made leaves keys.items) result
+        (planned_keys (map path_tree by.now) (map item_tree items.now) (map key_tree keys.now) leaves) }
 {
     let mut columns = Vec::new(alloc);
     for key in keys {

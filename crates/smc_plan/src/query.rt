@@ -26,7 +26,8 @@ pub(crate) fn planned_filter(
     leaves: &mut Leaves,
     filter: Option<&Cond>,
 ) -> Result<Option<TypedCond>, PlanFault>
-    ensures { Answers (λ typed. made leaves.new (filter_condition typed)) result (planned_filter catalog.now table (filter_tree (option_copied filter.entry)) leaves.old) }
+    ensures { Answers (λ typed. made leaves.new (filter_condition typed)) result
+        (planned_filter catalog.now table (filter_tree (option_copied filter.entry)) leaves.old) }
 {
     match filter {
         None => Ok(None),
@@ -45,7 +46,8 @@ fn placed_path(
     leaves: &mut Leaves,
     path: &Path,
 ) -> Result<usize, PlanFault>
-    ensures { Answers (λ place. made leaves.new place) result (placed_path catalog.now table (path_tree path.now) leaves.old) }
+    ensures { Answers (λ place. made leaves.new place) result
+        (placed_path catalog.now table (path_tree path.now) leaves.old) }
 {
     let leaf = leaf_of(alloc, catalog, table, path)?;
     let place = leaves.place(leaf)?;
@@ -60,7 +62,8 @@ fn placed_paths(
     leaves: &mut Leaves,
     paths: &[Path],
 ) -> Result<Vec<usize>, PlanFault>
-    ensures { Answers (λ places. made leaves.new places.items) result (placed_paths catalog.now table (map path_tree paths.now) leaves.old) }
+    ensures { Answers (λ places. made leaves.new places.items) result
+        (placed_paths catalog.now table (map path_tree paths.now) leaves.old) }
 {
     let mut places = Vec::new(alloc);
     for path in paths {
@@ -77,7 +80,8 @@ fn planned_parts(
     table: u32,
     query: &Query,
 ) -> Result<Plan, PlanFault>
-    ensures { Answers plan_tree result (and_then (planned_parts catalog.now (names_of folds.now) table (query_tree query.now) []) (λ all. Ok all.part)) }
+    ensures { Answers plan_tree result
+        (and_then (planned_parts catalog.now (names_of folds.now) table (query_tree query.now) []) (λ all. Ok all.part)) }
 {
     let mut leaves = Leaves::new(alloc);
     let filter = planned_filter(alloc, catalog, table, &mut leaves, query.filter.as_ref())?;
@@ -103,8 +107,10 @@ pub fn plan_query(
     catalog: &Catalog,
     folds: &[&str],
 ) -> Result<Plan, PlanFault>
-    ensures done { IfOk result (λ plan. planned catalog.now (names_of folds.now) (query_tree query.now) ≡ Ok (plan_tree plan)) }
-    ensures fault { IfErr result (λ fault. (fault ≡ NoMemory) ⊎ (planned catalog.now (names_of folds.now) (query_tree query.now) ≡ Err fault)) }
+    ensures done { IfOk result (λ plan.
+        planned catalog.now (names_of folds.now) (query_tree query.now) ≡ Ok (plan_tree plan)) }
+    ensures fault { IfErr result (λ fault. (fault ≡ NoMemory)
+        ⊎ (planned catalog.now (names_of folds.now) (query_tree query.now) ≡ Err fault)) }
 {
     let Some(table) = table_named(catalog, query.table.as_str()) else {
         return Err(PlanFault::NoTable);

@@ -38,7 +38,8 @@ pub fn table_named(catalog: &Catalog, name: &str) -> Option<u32>
 
 // The schema of the table with this number, where there is one.
 fn schema_of(catalog: &Catalog, table: u32) -> Option<&Schema>
-    ensures { MatchOption result (schema_of catalog.now table ≡ None) (λ schema. schema_of catalog.now table ≡ Some schema.now) }
+    ensures { MatchOption result (schema_of catalog.now table ≡ None)
+        (λ schema. schema_of catalog.now table ≡ Some schema.now) }
 {
     if table == 0 {
         return None;

@@ -1,7 +1,5 @@
-use Rattle.std.proofs.Common.{◌≡◌, sym, ◌∙◌}
+use Rattle.std.proofs.Common.{sym, ◌∙◌}
 use Rattle.smc_plan.specs.Typed.{typed_tree}
-use Rattle.smc_meaning.specs.Kinds.{sort_of}
-use Rattle.smc_meaning.specs.declared.value.Sort.TheVariants.{Number, Day, Text}
 use Rattle.smc_meaning.proofs.SideLaws.{can_meet, left_day, left_number, left_text, right_day, right_number, right_text}
 use Rattle.smc_meaning.proofs.comparing.compare_at.Goals as goal
 

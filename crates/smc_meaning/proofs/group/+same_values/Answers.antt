@@ -9,6 +9,7 @@ compare_rows-requires-clause-typed t c =
 
 pub same_values-requires : goal.same_values-requires
 same_values-requires t c =
-    let parts = c.in-Some.ensures.cases in
-    (omega (arith, parts.1),
-    (c.requires.one, (c.requires.other, later_leaves c.args.leaves.now c.args.places.now c.in-Some.place.now c.in-Some.rest.now parts.0 c.requires.places)))
+    let parts = c.in-Some.ensures.cases in (
+      omega (arith, parts.1),
+      (c.requires.one, (c.requires.other, later_leaves c.args.leaves.now c.args.places.now c.in-Some.place.now c.in-Some.rest.now parts.0 c.requires.places)),
+    )

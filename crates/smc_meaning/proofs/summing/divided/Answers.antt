@@ -1,8 +1,8 @@
-use Rattle.std.proofs.Common.{◌≡◌, ℤ, pos, ◌≤ℤ◌, ◌<ℤ◌, neg_ℤ, unsigned_abs, ap, ◌∙◌, arith}
+use Rattle.std.proofs.Common.{unsigned_abs, ap, ◌∙◌, arith}
 use Rattle.std.specs.Int.{w128}
 use Rattle.std.proofs.lemmas.Int.{ints, to_z-of_z}
 use Rattle.smc_meaning.specs.Groups.{nearest_part}
-use Rattle.smc_meaning.proofs.SumLaws.{divided_down, divided_up, down_by, up_by}
+use Rattle.smc_meaning.proofs.SumLaws.{down_by, up_by}
 use Rattle.smc_meaning.proofs.summing.divided.Goals as goal
 
 pub returns-then-units-lt0 : goal.returns-then-units-lt0

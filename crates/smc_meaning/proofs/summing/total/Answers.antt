@@ -20,6 +20,6 @@ loop-place-preserved c =
     let same : to_z w128 (of_z w128 c.together-total.result) ≡ c.together-total.result = omega (arith, ints, few, sum, c.loop-place.invariant.small, c.loop-place.total-is) in
     record {
       total = same ∙ sum ∙ sum-next c.args.leaves.now (typed_tree c.args.of.now) c.args.rows.now.rows c.loop-place.place c.get.result.now c.loop-place.total
-        c.number_at-number.result c.get.ensures.row (sym c.loop-place.total-is ∙ c.loop-place.invariant.total) c.number_at-number.ensures.value;
+          c.number_at-number.result c.get.ensures.row (sym c.loop-place.total-is ∙ c.loop-place.invariant.total) c.number_at-number.ensures.value;
       small = omega (arith, ints, few, sum, c.loop-place.invariant.small, c.loop-place.total-is);
     }

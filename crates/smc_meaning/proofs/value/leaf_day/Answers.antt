@@ -1,4 +1,4 @@
-use Rattle.std.proofs.Common.{sym, ap, ◌∙◌}
+use Rattle.std.proofs.Common.{ap, ◌∙◌}
 use Rattle.smc_types.specs.Columns.{width_of}
 use Rattle.smc_plan.specs.declared.kind.Kind.TheVariants.{Day}
 use Rattle.smc_meaning.proofs.OperandLaws.{day_column, leaf_is}

@@ -1,5 +1,4 @@
 use Rattle.std.proofs.Common.{arith}
-use Rattle.smc_meaning.specs.Texts.{bytes_in}
 use Rattle.smc_meaning.proofs.TextOrders.{length-text_of}
 use Rattle.smc_meaning.proofs.text.TextIn.byte.Goals as goal
 
