@@ -1,5 +1,5 @@
 -- The value of an edit is one that its column takes.
-use Rattle.std.proofs.Common.{◌≡◌, ℕ, ◌-◌, ◌*◌, ◌^◌, ◌≤◌, ◌<◌, Bool, true, false, ◌&&◌, nat_le, nat_lt, unsigned_abs, List, Option, Some, None, Result, Ok, Err, refl, sym, ap, ◌∙◌, subst, arith}
+use Rattle.std.proofs.Common.{◌≡◌, ℕ, ◌≤◌, ◌<◌, true, unsigned_abs, List, Ok, refl, ap, ◌∙◌, subst, arith}
 use Rattle.std.specs.Prelude.{◌≢◌}
 use Rattle.std.proofs.lemmas.Bool.Decides.{nat_tests}
 use Rattle.smc_types.specs.Cells.{is_number}
@@ -9,7 +9,6 @@ use Rattle.smc_types.specs.declared.number.TheConstants.{COUNT_MAX, AMOUNT_MAX, 
 use Rattle.smc_plan.specs.Bounds.{bound_at, extent, is_narrow_in, is_taken_by, kind_of}
 use Rattle.smc_plan.specs.Kinds.{kind_in}
 use Rattle.smc_plan.specs.Typed.{TypedTree}
-use Rattle.smc_plan.specs.declared.fault.PlanFault.{PlanFault}
 use Rattle.smc_plan.specs.declared.kind.Extent.{Extent}
 use Rattle.smc_plan.specs.declared.kind.Kind.{Kind}
 use Rattle.smc_plan.specs.declared.kind.Kind.TheVariants.{Number, Day, Text}

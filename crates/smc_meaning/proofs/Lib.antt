@@ -14,3 +14,4 @@ pub mod Printable
 pub mod SumLaws
 pub mod EndLaws
 pub mod EditedLaws
+pub mod AnswerLaws

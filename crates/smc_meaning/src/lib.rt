@@ -7,7 +7,8 @@
 //! `laws` the theorems over the definitions. Below stand `smc_plan` with plans and `smc_types` with columns; above, the crates
 //! that answer queries fast, whose answers are those of the definitions here.
 //!
-//! `cell` has the columns of an answer, `answer` its rows and its text, and `order` the order of rows. `editing` says what an edit
+//! `cell` has the columns of an answer, `answer` its rows and its text, and `order` the order of rows; `answering` is the
+//! evaluator, made of all these. `editing` says what an edit
 //! does with a row.
 //!
 //! The value of an expression is defined in `specs/Values.antt`, how values compare in `Comparing.antt`, the rows that are kept in
@@ -17,6 +18,7 @@
 #![tactic(auto)]
 
 mod answer;
+mod answering;
 mod cell;
 mod comparing;
 mod decimal;
@@ -35,6 +37,7 @@ mod text;
 mod value;
 
 pub use answer::{Answer, AnswerRow};
+pub use answering::slow;
 pub use cell::{Cell, ShownText};
 pub use comparing::compare_rows;
 pub use decimal::Decimal;
