@@ -3,15 +3,19 @@ use Rattle.std.proofs.Common.{◌≡◌, ℕ, List, [], ◌∷◌, ◌++◌, Opt
 use Rattle.std.specs.Prelude.{option_to_list}
 use Rattle.std.specs.List.{AllByRecursion}
 use Rattle.smc_shape.specs.Layout.{Layout}
+use Rattle.smc_folds.specs.Kinds.{Kind}
+use Rattle.smc_plan.specs.Planned.{Planned}
 use Rattle.smc_plan.specs.declared.leaf.Leaf.{Leaf}
 use Rattle.smc_region.specs.Callers.{Caller}
 use Rattle.smc_trace.specs.Trace.{CallEnd}
 use Rattle.smc_does.specs.Does.{DoesSome}
 use Rattle.smc_objects.specs.Alone.{InSection}
+use Rattle.smc_meaning.specs.Answers.{answer_of}
+use Rattle.smc_meaning.specs.Printed.{answer_text}
 use Rattle.smc_visits.specs.Rows.{RowOfVisit}
 use Rattle.smc_visits.specs.Visits.{IsVisit, TakesRows, Visited, rows_in}
 use Rattle.smc_visits.proofs.RowLaws.{rows-whole}
-use Rattle.smc_exec.specs.Queries.{IsLong, ReadsRows}
+use Rattle.smc_exec.specs.Queries.{AnswersRows, IsLong, ReadsRows}
 
 -- where none were taken before, and what is had in the end are these
 pub rows-read : (old new : Caller) (shape : Layout) (coll : ℕ) (leaves : List Leaf) (Had Has : List (List ℕ) → Type 0) (rows : List (List ℕ)) → Had []
@@ -39,3 +43,14 @@ rows-long shape leaves (visit ∷ visits) are = by_row visit.row are.0 (rows-lon
 pub read-long : (shape : Layout) (coll : ℕ) (leaves : List Leaf) (rows : List (List ℕ)) (calls : List CallEnd) → ReadsRows shape coll leaves rows calls → AllByRecursion (IsLong leaves) rows
 read-long shape coll leaves rows calls reads =
     subst (λ (k : List (List ℕ)). AllByRecursion (IsLong leaves) k) (sym reads.rows_are) (rows-long shape leaves reads.visits reads.scans.each)
+
+-- ---- answers
+
+-- the text is that of the answer over the rows that were read
+pub rows-answered : (old new : Caller) (shape : Layout) (coll : ℕ) (plan : Planned) (kinds : List Kind) (rows : List (List ℕ)) (text : List ℕ)
+    → DoesSome old new (InSection (ReadsRows shape coll plan.leaves rows)) → text ≡ answer_text (answer_of plan kinds rows)
+    → DoesSome old new (InSection (AnswersRows shape coll plan kinds text))
+rows-answered old new shape coll plan kinds rows text does is =
+    let section = does.2 in
+    let answers : AnswersRows shape coll plan kinds text section.inner = record { rows = rows; reads = section.holds; text_is = is } in
+    (does.0, does.1, record { epoch = section.epoch; inner = section.inner; holds = answers; made = section.made })
