@@ -1,2 +1,4 @@
 pub mod PlacedLaws
 pub mod FieldLaws
+pub mod QueryLaws
+pub mod PlainLaws

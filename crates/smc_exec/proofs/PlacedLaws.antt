@@ -1,5 +1,5 @@
 -- All leaves of a plan come from paths, so all of them can be read.
-use Rattle.std.proofs.Common.{◌≡◌, ℕ, List, [], ◌∷◌, Option, Some, None, Result, Ok, Err, refl, sym, ap, ◌∙◌, subst}
+use Rattle.std.proofs.Common.{◌≡◌, ℕ, List, [], ◌∷◌, Option, Some, None, Result, Ok, sym, ap, ◌∙◌, subst}
 use Rattle.std.specs.List.{AllByRecursion}
 use Rattle.smc_query.specs.Trees.{Word, PathTree, ExprTree, CondTree, CallTree, ItemTree, KeyTree, QueryTree}
 use Rattle.smc_query.specs.Trees as query
@@ -7,19 +7,18 @@ use Rattle.smc_types.specs.declared.catalog.Catalog.{Catalog}
 use Rattle.smc_plan.specs.Answers.{and_then}
 use Rattle.smc_plan.specs.Conditions.{ConditionTree, either, both, negation}
 use Rattle.smc_plan.specs.Conds.{compared, ranged, typed_cond}
-use Rattle.smc_plan.specs.Edits.{PlannedEdit, edited_field, edited_parts, planned_edit, written}
+use Rattle.smc_plan.specs.Edits.{PlannedEdit, edited_field, edited_parts, written}
 use Rattle.smc_plan.specs.Exprs.{day_typed, difference_typed, field_typed, leaf_typed, minus_typed, number_typed, product_typed, sum_typed, text_typed, typed_expr}
 use Rattle.smc_plan.specs.Items.{aggregated, folded, known, planned_call, planned_item}
 use Rattle.smc_plan.specs.Leaves.{leaf_of}
 use Rattle.smc_plan.specs.Orders.{order_key}
 use Rattle.smc_plan.specs.Outputs.{OutputTree, count}
-use Rattle.smc_plan.specs.Planned.{Planned, placed_path, placed_paths, planned, planned_filter, planned_items, planned_key, planned_keys, planned_parts, table_or_fault, with_leaves}
+use Rattle.smc_plan.specs.Planned.{Planned, placed_path, placed_paths, planned_filter, planned_items, planned_key, planned_keys, planned_parts, table_or_fault, with_leaves}
 use Rattle.smc_plan.specs.Planning.{Made, Planning, ◌>>=◌, each, given, made, placed}
 use Rattle.smc_plan.specs.Tables.{table_named}
 use Rattle.smc_plan.specs.Typed.{KindedTree}
 use Rattle.smc_plan.specs.declared.fault.PlanFault.{PlanFault}
 use Rattle.smc_plan.specs.declared.leaf.Leaf.{Leaf}
-use Rattle.smc_plan.specs.declared.plan.OrderKey.{OrderKey}
 use Rattle.smc_plan.specs.declared.table.Field.{Field}
 use Rattle.smc_plan.proofs.GrowLaws.{HasAll, HasAllOfEdit, and_then-Ok, behind-filter, behind-items, behind-keys, behind-paths, behind-typed, behind-value, edit-leaves, parts-leaves}
 use Rattle.smc_visits.specs.Rows.{FitsRecord}

@@ -1,3 +1,4 @@
 pub mod Plans
 pub mod Deletes
 pub mod Updates
+pub mod Queries

@@ -1,0 +1,24 @@
+use Rattle.std.proofs.Common.{◌≡◌}
+use Rattle.std.proofs.lemmas.Result.{IfOk-weaker}
+use Rattle.smc_does.specs.Does.{DoesSome}
+use Rattle.smc_objects.specs.Alone.{InSection}
+use Rattle.smc_plan.specs.Planned.{plan_tree}
+use Rattle.smc_meaning.specs.Answers.{answer_of}
+use Rattle.smc_meaning.specs.Printed.{answer_text}
+use Rattle.smc_exec.specs.Queries.{AnswersRows}
+use Rattle.smc_exec.proofs.QueryLaws.{rows-answered}
+use Rattle.smc_exec.proofs.answering.answer.Goals as goal
+
+pub answer_text-requires-clause-sound : goal.answer_text-requires-clause-sound
+answer_text-requires-clause-sound c = (c.queries_can_run.ensures (plan_tree c.args.plan.now) c.requires.planned).typed
+
+pub returns-in-Ok-clause-done : goal.returns-in-Ok-clause-done
+returns-in-Ok-clause-done c kinds =
+    let plan = plan_tree c.args.plan.now in
+    let old = c.args.pass in
+    let new = c.query_rows-pass.result.0 in
+    let rows = c.in-Ok.rows.rows in
+    let does = rw c.in-Ok.is at c.query_rows-pass.ensures.done in
+    IfOk-weaker c.answer_text.result (λ text. text.items ≡ answer_text (answer_of plan kinds rows))
+    (λ text. DoesSome old new (InSection (AnswersRows old.shape c.args.coll plan kinds text.items)))
+    (λ text is. rows-answered old new old.shape c.args.coll plan kinds rows text.items does is) (c.answer_text.ensures kinds)
