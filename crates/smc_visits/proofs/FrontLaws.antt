@@ -19,13 +19,13 @@ use Rattle.smc_visits.specs.Rows.{Follows, ReadsLeaf, RefersTo, IsNull, RowOfVis
 -- ---- one call and the next
 
 -- the first of two equal lists of calls have one answer, and one event
-first-done : (x y : CallEnd) (s t : List CallEnd) → (x ∷ s) ≡ (y ∷ t) → x.done ≡ y.done
+pub first-done : (x y : CallEnd) (s t : List CallEnd) → (x ∷ s) ≡ (y ∷ t) → x.done ≡ y.done
 first-done x y s t is = let same : x ≡ y = cc in ap (λ (k : CallEnd). k.done) same
 
 first-event : (x y : CallEnd) (s t : List CallEnd) → (x ∷ s) ≡ (y ∷ t) → x.event ≡ y.event
 first-event x y s t is = let same : x ≡ y = cc in ap (λ (k : CallEnd). k.event) same
 
-later-calls : (x y : CallEnd) (s t : List CallEnd) → (x ∷ s) ≡ (y ∷ t) → s ≡ t
+pub later-calls : (x y : CallEnd) (s t : List CallEnd) → (x ∷ s) ≡ (y ∷ t) → s ≡ t
 later-calls x y s t is = cc
 
 one-value : (value other : ℕ) → done.Value value ≡ done.Value other → value ≡ other

@@ -5,3 +5,4 @@ pub mod StillLaws
 pub mod FitLaws
 pub mod TakenLaws
 pub mod FrontLaws
+pub mod EditFronts
