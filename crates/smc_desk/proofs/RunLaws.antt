@@ -19,7 +19,7 @@ use Rattle.smc_script.specs.declared.command.Command.{Command}
 use Rattle.smc_script.specs.declared.command.Command.TheVariants as of
 use Rattle.smc_script.specs.declared.script.Place.{Place}
 use Rattle.smc_script.specs.Tables.{schema_of}
-use Rattle.smc_script.specs.Trees.{CommandTree, PartTree, add, command_tree, compact, get, load, one, group, part_tree, query, remove, set, stat}
+use Rattle.smc_script.specs.Trees.{CommandTree, PartTree, add, command_tree, compact, delete, get, load, one, group, part_tree, query, remove, set, stat, update}
 use Rattle.smc_load.specs.declared.fault.LoadFault.{LoadFault}
 use Rattle.smc_load.specs.declared.fault.LoadFault.TheVariants as fault
 use Rattle.smc_replies.specs.Books.{Books, no_books}
@@ -68,12 +68,14 @@ a-load : true ≡ false → ⊥
 a-load is = cc
 
 -- what a command does that reads no file, it does in every scene
-pub runs-in : (scene : Scene) (c : CommandTree) (old new : Books) (calls : List CallEnd) (text : List ℕ) → is_load c ≡ false → RunsCommand c old new calls text → RunsIn scene c old new calls text
+pub runs-in : (scene : Scene) (c : CommandTree) (old new : Books) (calls : List CallEnd) (text : List ℕ) → is_load c ≡ false → RunsCommand scene.shape c old new calls text → RunsIn scene c old new calls text
 runs-in scene (load place file) old new calls text plain runs = absurd (a-load plain)
 runs-in scene (add place name row) old new calls text plain runs = runs
 runs-in scene (get place name) old new calls text plain runs = runs
 runs-in scene (remove place name) old new calls text plain runs = runs
 runs-in scene (set place name column value) old new calls text plain runs = runs
+runs-in scene (delete place filter) old new calls text plain runs = runs
+runs-in scene (update place column value filter) old new calls text plain runs = runs
 runs-in scene (query place tree) old new calls text plain runs = runs
 runs-in scene (compact place) old new calls text plain runs = runs
 runs-in scene (stat place) old new calls text plain runs = runs
@@ -225,6 +227,8 @@ cannot (one numbered) may = go numbered.command may
     go (get place name) may = let none = may.coll in omega (arith, none)
     go (set place name column value) may = let none = may.0.coll in omega (arith, none)
     go (remove place name) may = omega (arith, may)
+    go (delete place filter) may = omega (arith, may.1)
+    go (update place column value filter) may = let none = may.1.coll in omega (arith, none)
     go _ may = may
 cannot (group workers) may = may
 

@@ -1,22 +1,25 @@
 -- Parts that are run one behind another.
 use Rattle.std.proofs.Common.{◌≡◌, ℕ, List, [], ◌∷◌, ◌++◌, refl, sym, subst, ap, ◌∙◌, append_assoc, append-nil}
 use Rattle.smc_words.specs.declared.number.Number.{Number}
+use Rattle.smc_shape.specs.Layout.{Layout}
 use Rattle.smc_trace.specs.Trace.{CallEnd}
 use Rattle.smc_query.specs.Trees.{Word}
 use Rattle.smc_types.specs.Tables.{the_tables}
 use Rattle.smc_script.specs.Tables.{schema_of}
 use Rattle.smc_script.specs.Sound.{EachCommand}
-use Rattle.smc_script.specs.Trees.{CommandTree, PartTree, add, compact, get, load, one, group, query, remove, set, stat}
+use Rattle.smc_script.specs.Trees.{CommandTree, PartTree, add, compact, delete, get, load, one, group, query, remove, set, stat, update}
 use Rattle.smc_replies.specs.Books.{Books, Named, object_of}
 use Rattle.smc_replies.specs.Laws.{CommandIsOne, IsOnePart, OnePartMore, TellsLoad, TextIsOne}
 use Rattle.smc_replies.specs.Objects.{GetsBy, OnObject, RemovesNamed, SetsBy}
 use Rattle.smc_replies.specs.Scripts.{RunsPart, RunsParts}
 use Rattle.smc_replies.specs.Loads.{Scene}
-use Rattle.smc_replies.specs.Commands.{RunsCommand, count_row, objects_line}
+use Rattle.smc_replies.specs.Commands.{RunsCommand, objects_line, table_name}
 use Rattle.smc_replies.proofs.Replied.{IsOneReply, part-of}
 use Rattle.smc_replies.proofs.Fronts.{counts-one}
 use Rattle.smc_replies.proofs.PackFronts.{packs-one}
 use Rattle.smc_replies.proofs.LoadFronts.{loads-one}
+use Rattle.smc_replies.proofs.EditFronts.{deletes-one, updates-one}
+use Rattle.smc_replies.proofs.QueryFronts.{answers-one}
 use Rattle.smc_replies.proofs.ObjectFronts.{DayHasOneText, adds-one, gets-one, on-object-one, removes-one, sets-one}
 
 -- the names before are those behind, where the command gives none
@@ -32,48 +35,65 @@ on-name-one names others coll name does first other rest behind text said each a
     (subst (λ (x : List Named). OnObject (object_of x coll name) does first text) are runs) again same
 
 -- a command that reads no file
-plain-one : DayHasOneText → (c : CommandTree) (old new before after : Books) (first other rest behind : List CallEnd) (text said : List ℕ) → old.names ≡ before.names
-    → RunsCommand c old new first text → RunsCommand c before after other said → first ++ rest ≡ other ++ behind → IsOnePart new after first other rest behind text said
-plain-one days (stat place) old new before after first other rest behind text said are runs again same =
+plain-one : DayHasOneText → (shape : Layout) (c : CommandTree) (old new before after : Books) (first other rest behind : List CallEnd) (text said : List ℕ) → old.names ≡ before.names
+    → RunsCommand shape c old new first text → RunsCommand shape c before after other said → first ++ rest ≡ other ++ behind → IsOnePart new after first other rest behind text said
+plain-one days shape (stat place) old new before after first other rest behind text said are runs again same =
     part-of new after first other rest behind text said same (counts-one objects_line place.coll first other rest behind text said runs.1 again.1 same) (names-kept old new before after are runs.0 again.0)
-plain-one days (query place tree) old new before after first other rest behind text said are runs again same =
-    part-of new after first other rest behind text said same (counts-one count_row place.coll first other rest behind text said runs.1.1 again.1.1 same) (names-kept old new before after are runs.0 again.0)
-plain-one days (compact place) old new before after first other rest behind text said are runs again same =
+plain-one days shape (query place tree) old new before after first other rest behind text said are runs again same =
+    part-of new after first other rest behind text said same (answers-one shape place.coll tree first other rest behind text said runs.1 again.1 same) (names-kept old new before after are runs.0 again.0)
+plain-one days shape (compact place) old new before after first other rest behind text said are runs again same =
     part-of new after first other rest behind text said same (packs-one place first other rest behind text said runs.1 again.1 same) (names-kept old new before after are runs.0 again.0)
-plain-one days (add place name row) old new before after first other rest behind text said are runs again same =
+plain-one days shape (add place name row) old new before after first other rest behind text said are runs again same =
     let read = adds-one (schema_of the_tables place.table) place name row old new before after first other rest behind text said are runs again same in
     part-of new after first other rest behind text said same read.0 read.1
-plain-one days (get place name) old new before after first other rest behind text said are runs again same =
+plain-one days shape (get place name) old new before after first other rest behind text said are runs again same =
     let schema = schema_of the_tables place.table in
     part-of new after first other rest behind text said same
     (on-name-one old.names before.names place.coll name (GetsBy schema) first other rest behind text said
     (λ number here there. gets-one days schema number first other rest behind text said here there same) are runs.1 again.1 same)
     (names-kept old new before after are runs.0 again.0)
-plain-one days (set place name column value) old new before after first other rest behind text said are runs again same =
+plain-one days shape (set place name column value) old new before after first other rest behind text said are runs again same =
     let schema = schema_of the_tables place.table in
     part-of new after first other rest behind text said same
     (on-name-one old.names before.names place.coll name (SetsBy schema column value) first other rest behind text said
     (λ number here there. sets-one schema column value number first other rest behind text said here there same) are runs.1 again.1 same)
     (names-kept old new before after are runs.0 again.0)
-plain-one days (remove place name) old new before after first other rest behind text said are runs again same =
+plain-one days shape (remove place name) old new before after first other rest behind text said are runs again same =
     part-of new after first other rest behind text said same
     (on-name-one old.names before.names place.coll name RemovesNamed first other rest behind text said
     (λ number here there. removes-one number first other rest behind text said here there same) are runs.1 again.1 same)
     (names-kept old new before after are runs.0 again.0)
-plain-one days _ old new before after first other rest behind text said are runs again same = absurd runs
+plain-one days shape (delete place filter) old new before after first other rest behind text said are runs again same =
+    part-of new after first other rest behind text said same (deletes-one shape (table_name place.table) place.coll filter first other rest behind text said runs.1 again.1 same)
+    (names-kept old new before after are runs.0 again.0)
+plain-one days shape (update place column value filter) old new before after first other rest behind text said are runs again same =
+    part-of new after first other rest behind text said same
+    (updates-one shape (table_name place.table) place.coll column value filter first other rest behind text said runs.1 again.1 same)
+    (names-kept old new before after are runs.0 again.0)
+plain-one days shape _ old new before after first other rest behind text said are runs again same = absurd runs
 
 pub command-one : DayHasOneText → CommandIsOne
 command-one days scene (load place file) old new before after first other rest behind text said tells are runs again same =
     let read = loads-one scene.files (schema_of the_tables place.table) place file old new before after first other rest behind text said tells are runs again same in
     part-of new after first other rest behind text said same read.0 read.1
-command-one days scene (add place name row) old new before after first other rest behind text said tells are runs again same = plain-one days (add place name row) old new before after first other rest behind text said are runs again same
-command-one days scene (get place name) old new before after first other rest behind text said tells are runs again same = plain-one days (get place name) old new before after first other rest behind text said are runs again same
-command-one days scene (remove place name) old new before after first other rest behind text said tells are runs again same = plain-one days (remove place name) old new before after first other rest behind text said are runs again same
+command-one days scene (add place name row) old new before after first other rest behind text said tells are runs again same =
+    plain-one days scene.shape (add place name row) old new before after first other rest behind text said are runs again same
+command-one days scene (get place name) old new before after first other rest behind text said tells are runs again same =
+    plain-one days scene.shape (get place name) old new before after first other rest behind text said are runs again same
+command-one days scene (remove place name) old new before after first other rest behind text said tells are runs again same =
+    plain-one days scene.shape (remove place name) old new before after first other rest behind text said are runs again same
 command-one days scene (set place name column value) old new before after first other rest behind text said tells are runs again same =
-    plain-one days (set place name column value) old new before after first other rest behind text said are runs again same
-command-one days scene (query place tree) old new before after first other rest behind text said tells are runs again same = plain-one days (query place tree) old new before after first other rest behind text said are runs again same
-command-one days scene (compact place) old new before after first other rest behind text said tells are runs again same = plain-one days (compact place) old new before after first other rest behind text said are runs again same
-command-one days scene (stat place) old new before after first other rest behind text said tells are runs again same = plain-one days (stat place) old new before after first other rest behind text said are runs again same
+    plain-one days scene.shape (set place name column value) old new before after first other rest behind text said are runs again same
+command-one days scene (delete place filter) old new before after first other rest behind text said tells are runs again same =
+    plain-one days scene.shape (delete place filter) old new before after first other rest behind text said are runs again same
+command-one days scene (update place column value filter) old new before after first other rest behind text said tells are runs again same =
+    plain-one days scene.shape (update place column value filter) old new before after first other rest behind text said are runs again same
+command-one days scene (query place tree) old new before after first other rest behind text said tells are runs again same =
+    plain-one days scene.shape (query place tree) old new before after first other rest behind text said are runs again same
+command-one days scene (compact place) old new before after first other rest behind text said tells are runs again same =
+    plain-one days scene.shape (compact place) old new before after first other rest behind text said are runs again same
+command-one days scene (stat place) old new before after first other rest behind text said tells are runs again same =
+    plain-one days scene.shape (stat place) old new before after first other rest behind text said are runs again same
 command-one days scene _ old new before after first other rest behind text said tells are runs again same = absurd runs
 
 pub part-one : DayHasOneText → (scene : Scene) (part : PartTree) (old new before after : Books) (first other rest behind : List CallEnd) (text said : List ℕ) → EachCommand (TellsLoad scene) part
