@@ -1,30 +1,23 @@
--- What deletes and updates do, told from the calls that they are made of.
-use Rattle.std.proofs.Common.{◌≡◌, ℕ, zero, suc, ◌+◌, ◌-◌, List, [], ◌∷◌, Option, Some, None, Result, Ok, Err, IfOk, refl, sym, subst, ap, ◌∙◌, arith}
+-- The objects of a table are as wide as the records of its fields.
+use Rattle.std.proofs.Common.{◌≡◌, ℕ, zero, suc, ◌+◌, ◌-◌, Bool, false, List, [], ◌∷◌, Option, Some, None, Ok, refl, sym, subst, ap, ◌∙◌, arith}
 use Rattle.std.specs.Option.{option_and_then, option_map}
-use Rattle.std.specs.Prelude.{position, slice_get}
+use Rattle.std.specs.Prelude.{◌==◌, if◌then◌else◌, position, slice_get}
 use Rattle.std.specs.Str.{bytes_eq}
+use Rattle.std.proofs.lemmas.Bool.Decides.{nat_tests}
 use Rattle.smc_shape.specs.Layout.{Layout, width_of}
-use Rattle.smc_region.specs.Callers.{Caller}
-use Rattle.smc_trace.specs.Trace.{CallEnd}
-use Rattle.smc_does.specs.Does.{DoesSome}
-use Rattle.smc_objects.specs.Alone.{InSection}
 use Rattle.smc_query.specs.Trees.{CondTree, ExprTree, Word}
 use Rattle.smc_types.specs.Columns.{columns_width}
 use Rattle.smc_types.specs.Tables.{the_tables}
 use Rattle.smc_types.specs.declared.column.Column.{Column}
 use Rattle.smc_types.specs.declared.schema.Schema.{Schema}
 use Rattle.smc_plan.specs.Edits.{PlannedEdit}
-use Rattle.smc_plan.specs.Planned.{Planned}
 use Rattle.smc_plan.specs.Tables.{field_among, field_at, field_by, field_named, field_or_fault, table_named}
 use Rattle.smc_plan.specs.declared.table.Field.{Field}
-use Rattle.smc_exec.specs.Deletes.{DeletesRows}
-use Rattle.smc_exec.specs.Updates.{UpdatesRows}
-use Rattle.smc_exec.specs.declared.update.Updated.{Updated}
 use Rattle.smc_exec.proofs.FieldLaws.{field-named}
 use Rattle.smc_script.specs.Tables.{schema_of}
 use Rattle.smc_script.specs.declared.script.Place.{Place}
 use Rattle.smc_replies.specs.Commands.{IsTableOf, name_by, table_name}
-use Rattle.smc_replies.specs.Edits.{DeletesWhere, UpdatesWhere, delete_plan, deleted_line, update_plan, updated_line}
+use Rattle.smc_replies.specs.Edits.{update_plan}
 
 -- ---- tables by their names
 
@@ -47,10 +40,10 @@ place-of : (table : ℕ) (schema : Schema) → schema_of the_tables table ≡ So
 place-of zero schema is = absurd cc
 place-of (suc k) schema is =
     let one : suc k - 1 ≡ k = omega arith in
-    (k, omega arith, subst (λ (n : ℕ). slice_get the_tables.schemas n ≡ Some schema) one (positive is))
-  where
-    positive : schema_of the_tables (suc k) ≡ Some schema → slice_get the_tables.schemas (suc k - 1) ≡ Some schema
-    positive is = is
+    let not : (suc k == 0) ≡ false = grind (arith, nat_tests) in
+    let there : slice_get the_tables.schemas (suc k - 1) ≡ Some schema =
+    subst (λ (b : Bool). (if b then None else slice_get the_tables.schemas (suc k - 1)) ≡ Some schema) not is in
+    (k, omega arith, subst (λ (n : ℕ). slice_get the_tables.schemas n ≡ Some schema) one there)
 
 -- a table is found by its name
 named-table : (table : ℕ) (schema : Schema) → schema_of the_tables table ≡ Some schema → table_named the_tables (table_name table) ≡ Some table
@@ -90,27 +83,3 @@ records-wide shape place column value filter plan table is =
   where
     some-number : (a b : ℕ) → Some a ≡ Some b → a ≡ b
     some-number a b is = cc
-
--- ---- commands
-
-module _ {E : Type 0} where
-  pub deletes-done : (shape now : Layout) (table : Word) (coll : ℕ) (filter : CondTree) (plan : Planned) (removed : ℕ) (old new : Caller) (reply : Result (List ℕ) E) → now ≡ shape
-      → delete_plan table filter ≡ Ok plan → DoesSome old new (InSection (DeletesRows now coll plan removed)) → IfOk reply (λ text. text ≡ deleted_line removed)
-      → IfOk reply (λ text. DoesSome old new (λ calls. DeletesWhere shape table coll filter calls text))
-  deletes-done shape now table coll filter plan removed old new (Ok text) same is done says = (
-    done.0,
-    done.1,
-    record { plan = plan; removed = removed; planned = is; deletes = subst (λ (k : Layout). InSection (DeletesRows k coll plan removed) done.0) same done.2; reply = says },
-  )
-  deletes-done shape now table coll filter plan removed old new (Err fault) same is done says = tt
-
-  pub updates-done : (shape now : Layout) (table : Word) (coll : ℕ) (column : Word) (value : ExprTree) (filter : Option CondTree) (plan : PlannedEdit) (updated : Updated) (old new : Caller)
-      (reply : Result (List ℕ) E)
-      → now ≡ shape → update_plan table column value filter ≡ Ok plan → DoesSome old new (InSection (UpdatesRows now coll plan updated)) → IfOk reply (λ text. text ≡ updated_line updated)
-      → IfOk reply (λ text. DoesSome old new (λ calls. UpdatesWhere shape table coll column value filter calls text))
-  updates-done shape now table coll column value filter plan updated old new (Ok text) same is done says = (
-    done.0,
-    done.1,
-    record { plan = plan; updated = updated; planned = is; updates = subst (λ (k : Layout). InSection (UpdatesRows k coll plan updated) done.0) same done.2; reply = says },
-  )
-  updates-done shape now table coll column value filter plan updated old new (Err fault) same is done says = tt

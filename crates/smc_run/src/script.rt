@@ -65,7 +65,10 @@ fn run_known<F: Shelf, O: Sink>(
 {
     // Up to its closing a region has come through lawful steps.
     what_happened_is_lawful();
-    match unknown_line(script.parts.as_slice()) {
+    let Ok(unknown) = unknown_line(alloc, script.parts.as_slice(), catalog) else {
+        return Ended::at(Status::NoMemory);
+    };
+    match unknown {
         Some(line) => Ended::at(Status::BadScript { line }),
         None => {
             let Ran { end, quiet } = run_alone(alloc, script, catalog, shelf, out);

@@ -101,4 +101,4 @@ returns-in-Update-clause-done c =
     let reply = c.update.result.1 in
     let place = c.in-Update.place in
     subst (λ (k : Command). IfOk reply (λ text. DoesSome old new (λ calls. RunsCommand shape (command_tree k) known known calls text))) (sym c.in-Update.is)
-    (kept-run (λ (calls : List CallEnd) (text : List ℕ). UpdatesWhere shape (table_name place.table) place.coll c.in-Update.column (expr_tree c.in-Update.value) (filter_tree c.in-Update.filter) calls text) known known old new reply refl c.update.ensures.done)
+    (kept-run (λ (calls : List CallEnd) (text : List ℕ). UpdatesWhere shape (table_name place.table) place.coll c.in-Update.column (expr_tree c.in-Update.value) (filter_tree c.in-Update.filter) calls text) known known old new reply refl (rw (c.as_ref.ensures.value) at c.update.ensures.done))

@@ -9,7 +9,7 @@ use Rattle.smc_run.proofs.script.run_known.Goals as goal
 pub run_alone-end-requires-clause-may : goal.run_alone-end-requires-clause-may
 run_alone-end-requires-clause-may g c =
     let script = c.args.script.now in
-    let none = subst (λ (parts : List Part). unknown_line (map part_tree parts) ≡ None) c.as_slice.ensures (sym c.unknown_line.ensures ∙ c.in-None.is) in
+    let none = subst (λ (parts : List Part). unknown_line (map part_tree parts) ≡ None) c.as_slice.ensures (sym c.in-Ok.ensures ∙ c.in-None.is) in
     let sound = c.requires.sound in
     all-may script.rooms (map part_tree script.parts) (opens-may script.rooms sound.opens) sound.fits sound.values none
 
