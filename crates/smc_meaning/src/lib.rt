@@ -35,6 +35,8 @@ mod output;
 mod rows;
 mod shown;
 mod summing;
+#[cfg(test)]
+mod tests;
 mod text;
 mod value;
 
