@@ -1,9 +1,9 @@
 -- Rows that are chosen one after another, and the leaves by which they are grouped.
 use Rattle.std.proofs.Common.{◌≡◌, ℕ, zero, suc, ◌+◌, ◌<◌, Bool, ◌||◌, true, false, cond, List, [], ◌∷◌, ◌++◌, length, take, filter, Some, slice_get, Ok, refl, sym, ap, ◌∙◌, append-nil, append_assoc, arith}
 use Rattle.std.specs.List.{AllByRecursion, list_any}
-use Rattle.std.proofs.lemmas.List.{take_more}
+use Rattle.std.proofs.lemmas.List.{get_or-take, length-take, take_more}
 use Rattle.std.proofs.lemmas.List.Elements.{filter_more}
-use Rattle.std.proofs.lemmas.List.Folds.{list_any_more}
+use Rattle.std.proofs.lemmas.List.Folds.{list_any_at, list_any_more}
 use Rattle.std.proofs.lemmas.Option.{slice_get_within, get_or_from_slice_get}
 use Rattle.smc_plan.specs.Bounds.{kind_of}
 use Rattle.smc_plan.specs.Typed as typed
@@ -66,13 +66,22 @@ first_rows-append plan before (first ∷ rows) row =
     ap (λ all. cond test all (first ∷ all)) (later ∙ ap (λ list. first_rows plan (before ++ first ∷ []) rows ++ cond (list_any (λ other. same_key plan other row) list) [] (row ∷ [])) same)
     ∙ joined_after test first (first_rows plan (before ++ first ∷ []) rows) tail
 
--- whether one of one row more passes
-pub any-next : (p : List ℕ → Bool) (rows : List (List ℕ)) (place : ℕ) (row : List ℕ) (found : Bool) → found ≡ list_any p (take place rows)
-    → slice_get rows place ≡ Some row → list_any p (take (place + 1) rows) ≡ (found || p row)
-any-next p rows place row found so_far is =
+-- none of one row more passes
+pub any-next : (p : List ℕ → Bool) (rows : List (List ℕ)) (place : ℕ) (row : List ℕ) → list_any p (take place rows) ≡ false
+    → slice_get rows place ≡ Some row → p row ≡ false → list_any p (take (place + 1) rows) ≡ false
+any-next p rows place row none is not =
     list_any_more p rows place row (slice_get_within rows place row is)
     ∙ ap (λ r. list_any p (take place rows) || p r) (get_or_from_slice_get rows place row row is)
-    ∙ ap (λ b. b || p row) (sym so_far)
+    ∙ ap (λ b. b || p row) none
+    ∙ not
+
+-- one of so many rows is enough
+pub any-there : (p : List ℕ → Bool) (rows : List (List ℕ)) (count place : ℕ) (row : List ℕ) → place < count → slice_get rows place ≡ Some row → p row ≡ true
+    → list_any p (take count rows) ≡ true
+any-there p rows count place row before is there =
+    let behind = slice_get_within rows place row is in
+    let within : place < length (take count rows) = omega (arith, length-take count rows, before, behind) in
+    list_any_at p (take count rows) place row within (ap p (get_or-take count rows place row before ∙ get_or_from_slice_get rows place row row is) ∙ there)
 
 -- one row more, behind so many
 first_rows-next : (plan : Planned) (rows : List (List ℕ)) (place : ℕ) (row : List ℕ) → slice_get rows place ≡ Some row

@@ -64,12 +64,12 @@ fn has_key(plan: &Plan, rows: &Rows, count: usize, row: &[u64]) -> bool
     requires sound { IsPlan plan.now.leaves (plan_tree plan.now) }
     ensures { result ≡ list_any (λ other. same_key (plan_tree plan.now) other row.now) (take count rows.now.rows) }
 {
-    let mut found = false;
     for place in 0..count {
-        let same = same_key(plan, rows.get(place), row);
-        found = found || same;
+        if same_key(plan, rows.get(place), row) {
+            return true;
+        }
     }
-    found
+    false
 }
 
 /// The rows whose key no row before them has.
