@@ -1,10 +1,14 @@
 //! Which scripts are run: those whose commands all are.
-ghost use Rattle.std.specs.Prelude.{◌≡◌, map};
+ghost use Rattle.std.specs.Prelude.{◌≡◌, IfOk, map};
 ghost use Rattle.smc_script.specs.Trees.{numbered_tree, part_tree, worker_tree};
+ghost use Rattle.smc_types.specs.Tables.{the_tables};
 ghost use Rattle.smc_replies.specs.Scripts.{first_line, is_known_part, line_of, unknown_line};
 
 use crate::outside::is_known;
-use smc_script::{Numbered, Part};
+use smc_script::{FoldNames, Numbered, Part};
+use smc_types::Catalog;
+use smc_words::NoMemory;
+use std::alloc::Global;
 
 // The line of the first command of these.
 fn first_line(commands: &[Numbered]) -> u64
@@ -30,23 +34,38 @@ fn line_of(part: &Part) -> u64
 }
 
 // Whether a part is run.
-fn is_known_part(part: &Part) -> bool
-    ensures { result ≡ is_known_part (part_tree part.now) }
+fn is_known_part(
+    alloc: Global,
+    part: &Part,
+    catalog: &Catalog,
+    folds: &FoldNames,
+) -> Result<bool, NoMemory>
+    requires tables { catalog.now ≡ the_tables }
+    ensures { IfOk result (λ known. known ≡ is_known_part folds.now (part_tree part.now)) }
 {
     match part {
-        Part::One(numbered) => is_known(&numbered.command),
-        Part::Group { .. } => false,
+        Part::One(numbered) => is_known(alloc, &numbered.command, catalog, folds),
+        Part::Group { .. } => Ok(false),
     }
 }
 
 /// The line at which the first part that is not run begins.
-pub fn unknown_line(parts: &[Part]) -> Option<u64>
-    ensures { result ≡ unknown_line (map part_tree parts.now) }
+///
+/// # Errors
+/// Memory was refused.
+pub fn unknown_line(
+    alloc: Global,
+    parts: &[Part],
+    catalog: &Catalog,
+    folds: &FoldNames,
+) -> Result<Option<u64>, NoMemory>
+    requires tables { catalog.now ≡ the_tables }
+    ensures { IfOk result (λ line. line ≡ unknown_line folds.now (map part_tree parts.now)) }
 {
     for part in parts {
-        if !is_known_part(part) {
-            return Some(line_of(part));
+        if !is_known_part(alloc, part, catalog, folds)? {
+            return Ok(Some(line_of(part)));
         }
     }
-    None
+    Ok(None)
 }

@@ -5,19 +5,21 @@ ghost use Rattle.smc_does.specs.Does.{DoesSome, OwnsNone};
 ghost use Rattle.smc_query.specs.Trees.{item_tree, query_tree};
 ghost use Rattle.smc_script.specs.Trees.{command_tree};
 ghost use Rattle.smc_types.specs.Tables.{the_tables};
-ghost use Rattle.smc_desk.specs.Runs.{seen};
+ghost use Rattle.smc_desk.specs.Runs.{scene_of, seen};
 ghost use Rattle.smc_replies.specs.Commands.{CanRun, Counts, PacksTable, RunsCommand, count_row, counts_all, is_known, is_load, objects_line, shows_count};
+ghost use Rattle.smc_load.specs.Files.{Told};
 
 use crate::books::Books;
 use crate::objects::{add, get, remove, set};
 use crate::reply::{Reply, count_row, objects_line, packed_reply};
 use crate::tables::table_name;
 use smc_compact::pack;
+use smc_folds::{Bench, Fold};
 use smc_objects::count_objects;
 use smc_query::{Item, ItemCall, Query};
 use smc_region::{Pass, Region};
 use smc_replies::COMPACT_TURNS;
-use smc_script::{Command, Place};
+use smc_script::{Command, FoldNames, Place};
 use smc_types::Catalog;
 use smc_words::NoMemory;
 use std::alloc::Global;
@@ -74,16 +76,21 @@ pub fn one(
     alloc: Global,
     c: &Command,
     catalog: &Catalog,
+    folds: &FoldNames,
     books: &mut Books,
+    bench: &mut Bench,
     pass: Pass,
     region: &Region,
 ) -> (Pass, Result<Reply, NoMemory>)
     requires here { IsPassOf region.now pass }
     requires free { OwnsNone pass }
     requires tables { catalog.now ≡ the_tables }
-    requires can { CanRun region.now.about.shape (command_tree c.now) }
+    requires can { CanRun region.now.about.shape folds.now (command_tree c.now) }
     requires plain { is_load (command_tree c.now) ≡ false }
-    ensures done { IfOk result.1 (λ reply. DoesSome pass result.0 (λ calls. RunsCommand (command_tree c.now) (seen books.old) (seen books.new) calls reply)) }
+    ensures done { (files : Told) → IfOk result.1 (λ reply. DoesSome pass result.0 (λ calls.
+        RunsCommand (scene_of files region.now.about.shape folds.now) (command_tree c.now)
+        (seen books.old (map (λ b. (⟦<dyn Fold as Fold>⟧ b.fold.vtable).kind b.fold.value) bench.old.boxes.items))
+        (seen books.new (map (λ b. (⟦<dyn Fold as Fold>⟧ b.fold.vtable).kind b.fold.value) bench.new.boxes.items)) calls reply)) }
     ensures home { IsSame pass result.0 × OwnsNone result.0 }
 {
     match c {
@@ -128,15 +135,24 @@ fn counts_all(query: &Query) -> bool
         && query.first.is_none()
 }
 
-/// Whether the command is one that is run.
-pub fn is_known(c: &Command) -> bool
-    ensures { result ≡ is_known (command_tree c.now) }
+/// Whether the command is one that is run, where the script was read with these folds.
+///
+/// # Errors
+/// Memory was refused.
+pub fn is_known(
+    alloc: Global,
+    c: &Command,
+    catalog: &Catalog,
+    folds: &FoldNames,
+) -> Result<bool, NoMemory>
+    requires tables { catalog.now ≡ the_tables }
+    ensures { IfOk result (λ known. known ≡ is_known folds.now (command_tree c.now)) }
 {
     match c {
-        Command::Stat { .. } => true,
-        Command::Query { query, .. } => counts_all(query),
-        Command::Load { .. } | Command::Compact { .. } | Command::Add { .. } => true,
-        Command::Get { .. } | Command::Set { .. } | Command::Remove { .. } => true,
-        _ => false,
+        Command::Stat { .. } => Ok(true),
+        Command::Query { query, .. } => Ok(counts_all(query)),
+        Command::Load { .. } | Command::Compact { .. } | Command::Add { .. } => Ok(true),
+        Command::Get { .. } | Command::Set { .. } | Command::Remove { .. } => Ok(true),
+        _ => Ok(false),
     }
 }
