@@ -20,7 +20,7 @@ use Rattle.smc_script.specs.declared.command.Command.{Command}
 use Rattle.smc_script.specs.declared.command.Command.TheVariants as of
 use Rattle.smc_script.specs.declared.script.Place.{Place}
 use Rattle.smc_script.specs.Tables.{schema_of}
-use Rattle.smc_script.specs.Trees.{CommandTree, PartTree, add, command_tree, compact, get, load, one, group, part_tree, query, remove, set, stat}
+use Rattle.smc_script.specs.Trees.{CommandTree, PartTree, add, command_tree, compact, delete, get, load, one, group, part_tree, query, remove, set, stat, update}
 use Rattle.smc_load.specs.declared.fault.LoadFault.{LoadFault}
 use Rattle.smc_load.specs.declared.fault.LoadFault.TheVariants as fault
 use Rattle.smc_replies.specs.Books.{Books, books_of}
@@ -221,6 +221,8 @@ cannot folds (one numbered) may = go numbered.command may
     go (get place name) may = let none = may.coll in omega (arith, none)
     go (set place name column value) may = let none = may.0.coll in omega (arith, none)
     go (remove place name) may = omega (arith, may)
+    go (delete place filter) may = omega (arith, may.1)
+    go (update place column value filter) may = let none = may.1.coll in omega (arith, none)
     go _ may = may
 cannot folds (group workers) may = may
 

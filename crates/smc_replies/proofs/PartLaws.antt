@@ -6,17 +6,21 @@ use Rattle.smc_query.specs.Trees.{Word}
 use Rattle.smc_types.specs.Tables.{the_tables}
 use Rattle.smc_script.specs.Tables.{schema_of}
 use Rattle.smc_script.specs.Sound.{EachCommand}
-use Rattle.smc_script.specs.Trees.{CommandTree, PartTree, add, compact, get, load, one, group, query, remove, set, stat}
+use Rattle.smc_script.specs.Trees.{CommandTree, PartTree, add, compact, delete, get, load, one, group, query, remove, set, stat, update}
 use Rattle.smc_replies.specs.Books.{Books, KnowsSame, Named, object_of}
 use Rattle.smc_replies.specs.Laws.{CommandIsOne, IsOnePart, OnePartMore, TellsLoad, TextIsOne}
 use Rattle.smc_replies.specs.Objects.{GetsBy, OnObject, RemovesNamed, SetsBy}
 use Rattle.smc_replies.specs.Scripts.{RunsPart, RunsParts}
+use Rattle.smc_folds.specs.Kinds.{Kind}
+use Rattle.smc_replies.specs.Queries.{AnswersQuery}
 use Rattle.smc_replies.specs.Loads.{Scene}
-use Rattle.smc_replies.specs.Commands.{count_row, objects_line}
+use Rattle.smc_replies.specs.Commands.{objects_line, table_name}
 use Rattle.smc_replies.proofs.Replied.{IsOneReply, part-of}
 use Rattle.smc_replies.proofs.Fronts.{counts-one}
 use Rattle.smc_replies.proofs.PackFronts.{packs-one}
 use Rattle.smc_replies.proofs.LoadFronts.{loads-one}
+use Rattle.smc_replies.proofs.EditFronts.{deletes-one, updates-one}
+use Rattle.smc_replies.proofs.QueryFronts.{answers-one}
 use Rattle.smc_replies.proofs.ObjectFronts.{DayHasOneText, adds-one, gets-one, on-object-one, removes-one, sets-one}
 
 -- what is known before is known behind, where the command gives no name
@@ -41,7 +45,8 @@ command-one days scene (load place file) old new before after first other rest b
 command-one days scene (stat place) old new before after first other rest behind text said tells are runs again same =
     part-of new after first other rest behind text said same (counts-one objects_line place.coll first other rest behind text said runs.1 again.1 same) (known-kept old new before after are runs.0 again.0)
 command-one days scene (query place tree) old new before after first other rest behind text said tells are runs again same =
-    part-of new after first other rest behind text said same (counts-one count_row place.coll first other rest behind text said runs.1.1 again.1.1 same) (known-kept old new before after are runs.0 again.0)
+    let mine = subst (λ (k : List Kind). AnswersQuery scene.shape scene.folds place.coll tree k first text) are.folds runs.1 in
+    part-of new after first other rest behind text said same (answers-one scene.shape scene.folds place.coll tree before.folds first other rest behind text said mine again.1 same) (known-kept old new before after are runs.0 again.0)
 command-one days scene (compact place) old new before after first other rest behind text said tells are runs again same =
     part-of new after first other rest behind text said same (packs-one place first other rest behind text said runs.1 again.1 same) (known-kept old new before after are runs.0 again.0)
 command-one days scene (add place name row) old new before after first other rest behind text said tells are runs again same =
@@ -63,6 +68,13 @@ command-one days scene (remove place name) old new before after first other rest
     part-of new after first other rest behind text said same
     (on-name-one old.names before.names place.coll name RemovesNamed first other rest behind text said
     (λ number here there. removes-one number first other rest behind text said here there same) are.names runs.1 again.1 same)
+    (known-kept old new before after are runs.0 again.0)
+command-one days scene (delete place filter) old new before after first other rest behind text said tells are runs again same =
+    part-of new after first other rest behind text said same (deletes-one scene.shape (table_name place.table) place.coll filter first other rest behind text said runs.1 again.1 same)
+    (known-kept old new before after are runs.0 again.0)
+command-one days scene (update place column value filter) old new before after first other rest behind text said tells are runs again same =
+    part-of new after first other rest behind text said same
+    (updates-one scene.shape (table_name place.table) place.coll column value filter first other rest behind text said runs.1 again.1 same)
     (known-kept old new before after are runs.0 again.0)
 command-one days scene _ old new before after first other rest behind text said tells are runs again same = absurd runs
 

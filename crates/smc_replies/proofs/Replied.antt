@@ -1,6 +1,7 @@
 -- What is read off from the front of a trace.
-use Rattle.std.proofs.Common.{◌≡◌, ℕ, List, ◌++◌, sym, ap, ◌∙◌}
+use Rattle.std.proofs.Common.{◌≡◌, ℕ, List, ◌++◌, Result, Ok, sym, ap, ◌∙◌}
 use Rattle.std.proofs.lemmas.List.{append_cancel_right}
+use Rattle.smc_plan.specs.declared.fault.PlanFault.{PlanFault}
 use Rattle.smc_trace.specs.Trace.{CallEnd}
 use Rattle.smc_replies.specs.Books.{Books, KnowsSame}
 use Rattle.smc_replies.specs.Laws.{IsOnePart}
@@ -18,3 +19,7 @@ part-of new after first other rest behind text said same one known = record {
   reply = one.1;
   known = known;
 }
+
+-- a text has one plan
+pub one-plan : {A : Type 0} (by : Result A PlanFault) (one other : A) → by ≡ Ok one → by ≡ Ok other → one ≡ other
+one-plan by one other is also = cc

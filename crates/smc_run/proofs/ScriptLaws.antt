@@ -23,7 +23,7 @@ use Rattle.smc_script.specs.Scripts.{Answers, TextGives}
 use Rattle.smc_script.specs.Sound.{EachCommand, IsFit, IsPlaced, IsPlacedAmong, IsRoomPlace, Opens, coll_of_room}
 use Rattle.smc_script.specs.Tables.{schema_of, table_width, width_by}
 use Rattle.smc_script.specs.declared.script.Place.{Place}
-use Rattle.smc_script.specs.Trees.{CommandTree, PartTree, ScriptTree, add, compact, get, load, one, group, query, remove, set, stat}
+use Rattle.smc_script.specs.Trees.{CommandTree, PartTree, ScriptTree, add, compact, delete, get, load, one, group, query, remove, set, stat, update}
 use Rattle.smc_script.specs.declared.fault.ScriptFault.{ScriptFault}
 use Rattle.smc_script.specs.declared.fault.ScriptFault.TheVariants.{Bad}
 use Rattle.smc_script.specs.declared.fault.ScriptFault.TheVariants as fault
@@ -132,6 +132,8 @@ part-may folds rooms (one numbered) opens placed fits known = go numbered.comman
     go (stat place) placed fits known = coll-of rooms place placed
     go (compact place) placed fits known = coll-of rooms place placed
     go (query place tree) placed fits known = (known, coll-of rooms place placed)
+    go (delete place filter) placed fits known = (known, coll-of rooms place placed)
+    go (update place column value filter) placed fits known = (known, table-of rooms place opens placed)
     go (add place name row) placed fits known = (table-of rooms place opens placed, fits)
     go (get place name) placed fits known = table-of rooms place opens placed
     go (set place name column value) placed fits known = (table-of rooms place opens placed, fits)

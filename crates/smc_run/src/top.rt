@@ -236,6 +236,31 @@ mod tests {
                 "packed nation objects 0 blocks 0\nrows 1\n0\n",
             ),
             (
+                "room region 64\nroom nation 64\nload region two.tbl\nadd nation a 1|A|0|x|\nadd nation b 2|B|2|y|\nadd nation c 3|C|2|z|\nquery from nation where nationkey < 3 by region.name show sum(nationkey) as s sort s desc\n",
+                "smc: 0 done",
+                "loaded region 2\nadded a\nadded b\nadded c\nrows 2\nASIA|2\nAFRICA|1\n",
+            ),
+            (
+                "room region 64\nload region two.tbl\nadd region a 999999999999|A||\ndelete region where name = 'ASIA'\nupdate region set regionkey = regionkey + 1\nget a\nstat region\n",
+                "smc: 0 done",
+                "loaded region 2\nadded a\ndeleted 1\nupdated 1 skipped 1\n999999999999|A||\nobjects 2\n",
+            ),
+            (
+                "room region 64\nstat region\nquery from region show sum(name)\n",
+                "smc: 2 bad script, line 3",
+                "",
+            ),
+            (
+                "room region 64\nstat region\ndelete region where name < 1\n",
+                "smc: 2 bad script, line 3",
+                "",
+            ),
+            (
+                "room region 64\nstat region\nupdate region set regionkey = 1 where no = 1\n",
+                "smc: 2 bad script, line 3",
+                "",
+            ),
+            (
                 "room region 64\nadd region africa 0|AFRICA|a|\nget africa\nset africa regionkey 7\nget africa\nstat region\n",
                 "smc: 0 done",
                 "added africa\n0|AFRICA|a|\nset\n7|AFRICA|a|\nobjects 1\n",
