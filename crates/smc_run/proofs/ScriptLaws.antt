@@ -3,7 +3,7 @@ use Rattle.std.proofs.Common.{◌≡◌, ℕ, zero, suc, ◌<◌, Bool, true, fa
 use Rattle.std.specs.Option.{option_or}
 use Rattle.std.specs.Prelude.{IsSome, if◌then◌else◌, slice_get}
 use Rattle.std.specs.List.{AllByRecursion}
-use Rattle.std.proofs.KnownBytes.{Appends-nil, Keeps-refl}
+use Rattle.std.proofs.KnownBytes.{Keeps-refl}
 use Rattle.std.proofs.lemmas.Bool.Decides.{nat_tests}
 use Rattle.std.proofs.lemmas.List.{length-map}
 use Rattle.smc_outside.specs.Told.{OnTold}
@@ -30,7 +30,7 @@ use Rattle.smc_script.specs.declared.fault.ScriptFault.TheVariants as fault
 use Rattle.smc_script.specs.declared.fault.ScriptKind.{ScriptKind}
 use Rattle.smc_script.specs.declared.script.Room.{Room}
 use Rattle.smc_load.specs.Files.{Told}
-use Rattle.smc_replies.specs.Books.{books_of, fold_names}
+use Rattle.smc_replies.specs.Books.{fold_names}
 use Rattle.smc_replies.specs.Commands.{CanRun, IsCollOf, IsTableOf, is_known}
 use Rattle.smc_replies.specs.Scripts.{CanRunPart, is_known_part, line_of, unknown_line}
 use Rattle.smc_desk.specs.declared.alone.RunEnd.{RunEnd}
@@ -151,10 +151,6 @@ all-may folds rooms (part ∷ later) opens all fits none = go (is_known_part fol
         → (unknown_line folds later ≡ None → AllByRecursion (CanRunPart (shape_asked rooms) folds) later) → AllByRecursion (CanRunPart (shape_asked rooms) folds) (part ∷ later)
     go true is none rest = (part-may folds rooms part opens all.0 fits.0 is, rest none)
     go false is none rest = absurd (no-line (line_of part) none)
-
--- where memory is refused before it, nothing was run and nothing written
-pub runs-nothing : (Closed : Option Ended → List CallEnd → Type 0) (scene : Scene) (kinds : List Kind) (parts : List PartTree) (out : Option (List ℕ)) → RunsAs Closed scene kinds end.NoMemory parts None out out
-runs-nothing Closed scene kinds parts out = ([], (0, books_of kinds, ([], (refl, refl, refl), (0, Appends-nil out))), refl)
 
 -- ---- after it
 
