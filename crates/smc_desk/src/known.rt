@@ -7,7 +7,7 @@ ghost use Rattle.smc_replies.specs.Scripts.{first_line, is_known_part, line_of, 
 
 use crate::edits::{can_delete, can_update};
 use crate::queries::can_query;
-use smc_script::{Command, Numbered, Part};
+use smc_script::{Command, FoldNames, Numbered, Part};
 use smc_types::Catalog;
 use smc_words::NoMemory;
 use std::alloc::Global;
@@ -35,19 +35,24 @@ fn line_of(part: &Part) -> u64
     }
 }
 
-/// Whether the command is one that is run.
+/// Whether the command is one that is run, where the script was read with these folds.
 ///
 /// # Errors
 /// Memory was refused for a plan.
-pub fn is_known(alloc: Global, c: &Command, catalog: &Catalog) -> Result<bool, NoMemory>
+pub fn is_known(
+    alloc: Global,
+    c: &Command,
+    catalog: &Catalog,
+    folds: &FoldNames,
+) -> Result<bool, NoMemory>
     requires tables { catalog.now ≡ the_tables }
-    ensures { IfOk result (λ known. known ≡ is_known (command_tree c.now)) }
+    ensures { IfOk result (λ known. known ≡ is_known folds.now (command_tree c.now)) }
 {
     match c {
         Command::Stat { .. } | Command::Load { .. } | Command::Compact { .. } => Ok(true),
         Command::Add { .. } | Command::Get { .. } => Ok(true),
         Command::Set { .. } | Command::Remove { .. } => Ok(true),
-        Command::Query { query, .. } => can_query(alloc, query, catalog),
+        Command::Query { query, .. } => can_query(alloc, query, catalog, folds),
         Command::Delete { place, filter } => can_delete(alloc, *place, filter, catalog),
         Command::Update {
             place,
@@ -60,17 +65,22 @@ pub fn is_known(alloc: Global, c: &Command, catalog: &Catalog) -> Result<bool, N
 }
 
 // Whether a part is run.
-fn is_known_part(alloc: Global, part: &Part, catalog: &Catalog) -> Result<bool, NoMemory>
+fn is_known_part(
+    alloc: Global,
+    part: &Part,
+    catalog: &Catalog,
+    folds: &FoldNames,
+) -> Result<bool, NoMemory>
     requires tables { catalog.now ≡ the_tables }
-    ensures { IfOk result (λ known. known ≡ is_known_part (part_tree part.now)) }
+    ensures { IfOk result (λ known. known ≡ is_known_part folds.now (part_tree part.now)) }
 {
     match part {
-        Part::One(numbered) => is_known(alloc, &numbered.command, catalog),
+        Part::One(numbered) => is_known(alloc, &numbered.command, catalog, folds),
         Part::Group { .. } => Ok(false),
     }
 }
 
-/// The line at which the first part that is not run begins.
+/// The line at which the first part that is not run begins, where the script was read with these folds.
 ///
 /// # Errors
 /// Memory was refused for a plan.
@@ -78,12 +88,13 @@ pub fn unknown_line(
     alloc: Global,
     parts: &[Part],
     catalog: &Catalog,
+    folds: &FoldNames,
 ) -> Result<Option<u64>, NoMemory>
     requires tables { catalog.now ≡ the_tables }
-    ensures { IfOk result (λ line. line ≡ unknown_line (map part_tree parts.now)) }
+    ensures { IfOk result (λ line. line ≡ unknown_line folds.now (map part_tree parts.now)) }
 {
     for part in parts {
-        if !is_known_part(alloc, part, catalog)? {
+        if !is_known_part(alloc, part, catalog, folds)? {
             return Ok(Some(line_of(part)));
         }
     }

@@ -1,10 +1,11 @@
 //! A command outside a group.
-ghost use Rattle.std.specs.Prelude.{◌≡◌, ◌<◌, false, IfOk, length};
+ghost use Rattle.std.specs.Prelude.{◌≡◌, ◌<◌, false, IfOk, length, map};
 ghost use Rattle.smc_region.specs.Callers.{IsPassOf, IsSame};
 ghost use Rattle.smc_does.specs.Does.{DoesSome, OwnsNone};
 ghost use Rattle.smc_script.specs.Trees.{command_tree};
 ghost use Rattle.smc_types.specs.Tables.{the_tables};
-ghost use Rattle.smc_desk.specs.Runs.{seen};
+ghost use Rattle.smc_desk.specs.Runs.{scene_of, seen};
+ghost use Rattle.smc_load.specs.Files.{Told};
 ghost use Rattle.smc_replies.specs.Commands.{CanRun, Counts, PacksTable, RunsCommand, is_load, objects_line};
 
 use crate::books::Books;
@@ -14,10 +15,11 @@ use crate::queries::query;
 use crate::reply::{Reply, objects_line, packed_reply};
 use crate::tables::table_name;
 use smc_compact::pack;
+use smc_folds::{Bench, Fold};
 use smc_objects::count_objects;
 use smc_region::{Pass, Region};
 use smc_replies::COMPACT_TURNS;
-use smc_script::{Command, Place};
+use smc_script::{Command, FoldNames, Place};
 use smc_types::Catalog;
 use smc_words::NoMemory;
 use std::alloc::Global;
@@ -63,16 +65,21 @@ pub fn one(
     alloc: Global,
     c: &Command,
     catalog: &Catalog,
+    folds: &FoldNames,
     books: &mut Books,
+    bench: &mut Bench,
     pass: Pass,
     region: &Region,
 ) -> (Pass, Result<Reply, NoMemory>)
     requires here { IsPassOf region.now pass }
     requires free { OwnsNone pass }
     requires tables { catalog.now ≡ the_tables }
-    requires can { CanRun region.now.about.shape (command_tree c.now) }
+    requires can { CanRun region.now.about.shape folds.now (command_tree c.now) }
     requires plain { is_load (command_tree c.now) ≡ false }
-    ensures done { IfOk result.1 (λ reply. DoesSome pass result.0 (λ calls. RunsCommand region.now.about.shape (command_tree c.now) (seen books.old) (seen books.new) calls reply)) }
+    ensures done { (files : Told) → IfOk result.1 (λ reply. DoesSome pass result.0 (λ calls.
+        RunsCommand (scene_of files region.now.about.shape folds.now) (command_tree c.now)
+        (seen books.old (map (λ b. (⟦<dyn Fold as Fold>⟧ b.fold.vtable).kind b.fold.value) bench.old.boxes.items))
+        (seen books.new (map (λ b. (⟦<dyn Fold as Fold>⟧ b.fold.vtable).kind b.fold.value) bench.new.boxes.items)) calls reply)) }
     ensures home { IsSame pass result.0 × OwnsNone result.0 }
 {
     match c {
@@ -80,7 +87,7 @@ pub fn one(
         Command::Query {
             place,
             query: asked,
-        } => query(alloc, *place, asked, catalog, pass, region),
+        } => query(alloc, *place, asked, catalog, folds, bench, pass, region),
         Command::Compact { place } => compact(alloc, *place, catalog, pass, region),
         Command::Add { place, name, row } => {
             add(alloc, *place, name, row, catalog, books, pass, region)

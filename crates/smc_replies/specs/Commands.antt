@@ -72,19 +72,19 @@ pub record PacksTable (place : Place) (calls : List CallEnd) (text : List ℕ) :
 
 -- ---- commands
 
--- the commands that are run, queries and edits where they have a plan; a script that has another one is refused at its line
-abbrev pub is_known : CommandTree → Bool
-is_known (load place file) = true
-is_known (stat place) = true
-is_known (query place tree) = is_ok (query_plan tree)
-is_known (compact place) = true
-is_known (add place name row) = true
-is_known (get place name) = true
-is_known (set place name column value) = true
-is_known (remove place name) = true
-is_known (delete place filter) = is_ok (delete_plan (table_name place.table) filter)
-is_known (update place column value filter) = is_ok (update_plan (table_name place.table) column value filter)
-is_known _ = false
+-- the commands that are run where the script was read with folds of these names, queries and edits where they have a plan; a script that has another one is refused at its line
+abbrev pub is_known : List Word → CommandTree → Bool
+is_known folds (load place file) = true
+is_known folds (stat place) = true
+is_known folds (query place tree) = is_ok (query_plan folds tree)
+is_known folds (compact place) = true
+is_known folds (add place name row) = true
+is_known folds (get place name) = true
+is_known folds (set place name column value) = true
+is_known folds (remove place name) = true
+is_known folds (delete place filter) = is_ok (delete_plan (table_name place.table) filter)
+is_known folds (update place column value filter) = is_ok (update_plan (table_name place.table) column value filter)
+is_known folds _ = false
 
 -- ---- what a command needs
 
@@ -99,19 +99,19 @@ pub record IsTableOf (shape : Layout) (place : Place) : Type 0 where
   pub coll : IsCollOf shape place
   pub width : columns_width schema.columns ≡ width_of shape place.coll
 
--- the command may be run on a region of this shape
-abbrev pub CanRun : Layout → CommandTree → Type 0
-CanRun shape (load place file) = IsTableOf shape place
-CanRun shape (stat place) = IsCollOf shape place
-CanRun shape (query place tree) = (is_ok (query_plan tree) ≡ true) × IsCollOf shape place
-CanRun shape (compact place) = IsCollOf shape place
-CanRun shape (add place name row) = IsTableOf shape place × FitsTable the_tables place.table row
-CanRun shape (get place name) = IsTableOf shape place
-CanRun shape (set place name column value) = IsTableOf shape place × FitsColumn the_tables place.table column value
-CanRun shape (remove place name) = IsCollOf shape place
-CanRun shape (delete place filter) = (is_ok (delete_plan (table_name place.table) filter) ≡ true) × IsCollOf shape place
-CanRun shape (update place column value filter) = (is_ok (update_plan (table_name place.table) column value filter) ≡ true) × IsTableOf shape place
-CanRun shape _ = ⊥
+-- the command may be run on a region of this shape, where the script was read with folds of these names
+abbrev pub CanRun : Layout → List Word → CommandTree → Type 0
+CanRun shape folds (load place file) = IsTableOf shape place
+CanRun shape folds (stat place) = IsCollOf shape place
+CanRun shape folds (query place tree) = (is_ok (query_plan folds tree) ≡ true) × IsCollOf shape place
+CanRun shape folds (compact place) = IsCollOf shape place
+CanRun shape folds (add place name row) = IsTableOf shape place × FitsTable the_tables place.table row
+CanRun shape folds (get place name) = IsTableOf shape place
+CanRun shape folds (set place name column value) = IsTableOf shape place × FitsColumn the_tables place.table column value
+CanRun shape folds (remove place name) = IsCollOf shape place
+CanRun shape folds (delete place filter) = (is_ok (delete_plan (table_name place.table) filter) ≡ true) × IsCollOf shape place
+CanRun shape folds (update place column value filter) = (is_ok (update_plan (table_name place.table) column value filter) ≡ true) × IsTableOf shape place
+CanRun shape folds _ = ⊥
 
 -- ---- what it does
 
@@ -120,26 +120,22 @@ abbrev pub is_load : CommandTree → Bool
 is_load (load place file) = true
 is_load command = false
 
--- a command that reads no file, on a region of this shape, with what was known before and after it, makes these calls, and replies this
-abbrev pub RunsCommand : Layout → CommandTree → Books → Books → List CallEnd → List ℕ → Type 0
-RunsCommand shape (stat place) old new calls text = (new ≡ old) × Counts objects_line place.coll calls text
-RunsCommand shape (query place tree) old new calls text = (new ≡ old) × AnswersQuery shape place.coll tree calls text
-RunsCommand shape (compact place) old new calls text = (new ≡ old) × PacksTable place calls text
-RunsCommand shape (add place name row) old new calls text = AddsBy (schema_of the_tables place.table) place name row old new calls text
-RunsCommand shape (get place name) old new calls text =
+-- in this scene a command, with what was known before it and what is known after it, makes these calls, and this is its reply
+abbrev pub RunsCommand : Scene → CommandTree → Books → Books → List CallEnd → List ℕ → Type 0
+RunsCommand scene (load place file) old new calls text = LoadsBy (schema_of the_tables place.table) scene.files place file old new calls text
+RunsCommand scene (stat place) old new calls text = (new ≡ old) × Counts objects_line place.coll calls text
+RunsCommand scene (query place tree) old new calls text = (new ≡ old) × AnswersQuery scene.shape scene.folds place.coll tree old.folds calls text
+RunsCommand scene (compact place) old new calls text = (new ≡ old) × PacksTable place calls text
+RunsCommand scene (add place name row) old new calls text = AddsBy (schema_of the_tables place.table) place name row old new calls text
+RunsCommand scene (get place name) old new calls text =
     (new ≡ old) × OnObject (object_of old.names place.coll name) (GetsBy (schema_of the_tables place.table)) calls text
-RunsCommand shape (set place name column value) old new calls text =
+RunsCommand scene (set place name column value) old new calls text =
     (new ≡ old) × OnObject (object_of old.names place.coll name) (SetsBy (schema_of the_tables place.table) column value) calls text
-RunsCommand shape (remove place name) old new calls text = (new ≡ old) × OnObject (object_of old.names place.coll name) RemovesNamed calls text
-RunsCommand shape (delete place filter) old new calls text = (new ≡ old) × DeletesWhere shape (table_name place.table) place.coll filter calls text
-RunsCommand shape (update place column value filter) old new calls text =
-    (new ≡ old) × UpdatesWhere shape (table_name place.table) place.coll column value filter calls text
-RunsCommand shape _ old new calls text = ⊥
-
--- the same of any command, over the files of its scene
-abbrev pub RunsIn : Scene → CommandTree → Books → Books → List CallEnd → List ℕ → Type 0
-RunsIn scene (load place file) old new calls text = LoadsBy (schema_of the_tables place.table) scene.files place file old new calls text
-RunsIn scene command old new calls text = RunsCommand scene.shape command old new calls text
+RunsCommand scene (remove place name) old new calls text = (new ≡ old) × OnObject (object_of old.names place.coll name) RemovesNamed calls text
+RunsCommand scene (delete place filter) old new calls text = (new ≡ old) × DeletesWhere scene.shape (table_name place.table) place.coll filter calls text
+RunsCommand scene (update place column value filter) old new calls text =
+    (new ≡ old) × UpdatesWhere scene.shape (table_name place.table) place.coll column value filter calls text
+RunsCommand scene _ old new calls text = ⊥
 
 -- the command is a load of this file, which stops at the fault behind these calls
 abbrev pub StopsIn : Scene → Word → LoadFault → CommandTree → Books → List CallEnd → Type 0

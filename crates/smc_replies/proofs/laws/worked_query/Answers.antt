@@ -1,6 +1,7 @@
 -- What it does, and that the text is what is printed.
 use Rattle.std.proofs.Common.{◌≡◌, ℕ, Some, None, List, [], ◌∷◌, Ok, refl}
 use Rattle.std.specs.Fmt.{digits}
+use Rattle.smc_query.specs.Trees.{Word}
 use Rattle.smc_types.specs.Tables.{the_tables}
 use Rattle.smc_plan.specs.Outputs as outputs
 use Rattle.smc_plan.specs.Planned.{Planned}
@@ -18,13 +19,13 @@ its-plan = record { leaves = []; filter = None; by = []; items = outputs.count �
 abbrev came-to : ℕ → ℕ → Visited
 came-to entry slot = record { held = object_at entry slot; row = Some []; calls = [] }
 
-is-planned : query_plan a_count ≡ Ok its-plan
+is-planned : (folds : List Word) → query_plan folds a_count ≡ Ok its-plan
 unfolding the_tables
-is-planned = refl
+is-planned folds = refl
 
 pub returns : goal.returns
 unfolding digits
-returns c scene = (
+returns c scene kinds = (
   _,
   _,
   _,
@@ -34,7 +35,7 @@ returns c scene = (
     refl,
     record {
       plan = its-plan;
-      planned = is-planned;
+      planned = is-planned scene.folds;
       answers = record {
         epoch = 2;
         inner = _;
