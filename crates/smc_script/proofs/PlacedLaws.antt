@@ -235,12 +235,12 @@ column-fits catalog (Some table) column value kind is good may = record {
 -- ---- more commands, and more rooms
 
 -- what holds of each of a list holds of each of a list with one more
-all-more : {A : Type 0} (P : A → Type 0) (list : List A) (last : A) → AllByRecursion P list → P last → AllByRecursion P (list ++ last ∷ [])
+pub all-more : {A : Type 0} (P : A → Type 0) (list : List A) (last : A) → AllByRecursion P list → P last → AllByRecursion P (list ++ last ∷ [])
 all-more P [] last all holds = (holds, tt)
 all-more P (a ∷ list) last (first, all) holds = (first, all-more P list last all holds)
 
 -- the same of each of a list of lists with one more in the last
-work-more : {A : Type 0} (P : A → Type 0) (workers : List (List A)) (commands : List A) (last : A) → AllByRecursion (AllByRecursion P) (workers ++ commands ∷ []) → P last
+pub work-more : {A : Type 0} (P : A → Type 0) (workers : List (List A)) (commands : List A) (last : A) → AllByRecursion (AllByRecursion P) (workers ++ commands ∷ []) → P last
     → AllByRecursion (AllByRecursion P) (workers ++ (commands ++ last ∷ []) ∷ [])
 work-more P [] commands last (all, rest) holds = (all-more P commands last all holds, tt)
 work-more P (worker' ∷ workers) commands last (first, all) holds = (first, work-more P workers commands last all holds)

@@ -15,7 +15,7 @@ use Rattle.smc_types.specs.declared.catalog.Catalog.{Catalog}
 use Rattle.smc_script.specs.Faults.{LineGives, passed_over, no_text, no_command, command, has_room, is_doing, is_too_large, knows, group_fault, known_fault, many_fault, room_fault, name_fault, said_fault, taken}
 use Rattle.smc_script.specs.Says.{SaidTree, room, load, add, get, set, remove, delete, update, query, compact, stat, drop_fold, group, worker, end}
 use Rattle.smc_script.specs.Scripts.{Answers, LinesGive, Outcome}
-use Rattle.smc_script.specs.Sound.{EachCommand, IsFit, IsPlaced, IsSound, Opens, coll_of_room}
+use Rattle.smc_script.specs.Sound.{EachCommand, IsFit, IsPlaced, IsSound, IsWhole, Opens, coll_of_room}
 use Rattle.smc_script.specs.States.{ReadState, GroupState, outside, begun, working, after, colls_of, placed, script_of, start, with_numbered, with_room}
 use Rattle.smc_script.specs.Names.{Naming}
 use Rattle.smc_script.specs.Trees.{NumberedTree, ScriptTree, script_tree}
@@ -24,6 +24,7 @@ use Rattle.smc_script.specs.declared.fault.ScriptKind.{ScriptKind}
 use Rattle.smc_script.specs.declared.fault.ScriptKind.TheVariants.{Name, Room}
 use Rattle.smc_script.specs.declared.script.Script.{Script}
 use Rattle.smc_script.specs.declared.state.Asked.{Asked}
+use Rattle.smc_script.proofs.GroupLaws.{IsGrouped, after-grouped}
 use Rattle.smc_script.proofs.PlacedLaws.{Fits, IsGood, SaidFits, after-good, denied-none, line-fits}
 use Rattle.smc_script.proofs.ScriptLaws.{script-ended}
 use Rattle.smc_script.proofs.StateLaws.{fault-none, none-last, none-there}
@@ -148,40 +149,55 @@ lines-open catalog folds (line ∷ lines) state number script opens (Ok next, gi
     lines-open catalog folds lines next (number + 1) script (line-opens catalog folds state next (number + 1) line (Ok next) opens gives refl) rest
 lines-open catalog folds (line ∷ lines) state number script opens (Err kind, gives, rest) = absurd cc
 
+-- a line that is not refused may stand there, and is no worker too many
+group-none : (catalog : Catalog) (folds : List Word) (state : ReadState) (said : SaidTree) → said_fault catalog folds state said ≡ None → group_fault state.group said ≡ None
+group-none catalog folds state said is =
+    first-none (group_fault state.group said) (known_fault catalog folds state said)
+    (second-none (many_fault state.group said) (option_or (group_fault state.group said) (known_fault catalog folds state said)) is)
+
+many-none : (catalog : Catalog) (folds : List Word) (state : ReadState) (said : SaidTree) → said_fault catalog folds state said ≡ None → many_fault state.group said ≡ None
+many-none catalog folds state said is = first-none (many_fault state.group said) (option_or (group_fault state.group said) (known_fault catalog folds state said)) is
+
+-- what was read is good, and its groups are whole
+abbrev IsRead : Catalog → ReadState → Type 0
+IsRead catalog state = IsGood catalog state × IsGrouped state
+
 -- what a line that says this gives is good
 taken-good : (catalog : Catalog) (folds : List Word) (state next : ReadState) (line : ℕ) (said : SaidTree) (kind : Option ScriptKind) (given : Result ReadState ScriptKind)
-    → IsGood catalog state → SaidFits catalog state.names said → said_fault catalog folds state said ≡ kind → given ≡ taken catalog state line said kind → given ≡ Ok next → IsGood catalog next
-taken-good catalog folds state next line said None given good fits none is same =
-    subst (IsGood catalog) (state-one (after catalog state line said) next given is same)
-    (after-good catalog folds state line said good fits (first-none (room_fault catalog state said) (name_fault catalog folds state said) (known-none catalog folds state said none))
-    (denied-none (knows catalog folds state said) Name (second-none (room_fault catalog state said) (name_fault catalog folds state said) (known-none catalog folds state said none))))
+    → IsRead catalog state → SaidFits catalog state.names said → said_fault catalog folds state said ≡ kind → given ≡ taken catalog state line said kind → given ≡ Ok next → IsRead catalog next
+taken-good catalog folds state next line said None given (good, grouped) fits none is same =
+    subst (IsRead catalog) (state-one (after catalog state line said) next given is same) (
+      after-good catalog folds state line said good fits (first-none (room_fault catalog state said) (name_fault catalog folds state said) (known-none catalog folds state said none))
+          (denied-none (knows catalog folds state said) Name (second-none (room_fault catalog state said) (name_fault catalog folds state said) (known-none catalog folds state said none))),
+      after-grouped catalog state line said grouped (many-none catalog folds state said none) (group-none catalog folds state said none),
+    )
 taken-good catalog folds state next line said (Some kind) given good fits none is same = absurd cc
 
 -- a line that is taken leaves what was read good
 line-good : Fits → (catalog : Catalog) (folds : List Word) (state next : ReadState) (number : ℕ) (line : List ℕ) (given : Result ReadState ScriptKind)
-    → IsGood catalog state → LineGives catalog folds state number line given → given ≡ Ok next → IsGood catalog next
-line-good laws catalog folds state next number line given good (passed_over quiet is) same = subst (IsGood catalog) (state-one state next given is same) good
+    → IsRead catalog state → LineGives catalog folds state number line given → given ≡ Ok next → IsRead catalog next
+line-good laws catalog folds state next number line given good (passed_over quiet is) same = subst (IsRead catalog) (state-one state next given is same) good
 line-good laws catalog folds state next number line given good (no_text none is) same = absurd cc
 line-good laws catalog folds state next number line given good (no_command counts none is) same = absurd cc
 line-good laws catalog folds state next number line given good (command said counts says is) same =
     taken-good catalog folds state next number said (said_fault catalog folds state said) given good (line-fits laws catalog state.names line said says) refl is same
 
--- the parts of a script are placed among its rooms, and fit its tables
+-- the parts of a script are placed among its rooms, and fit its tables; its groups are whole
 abbrev AreFit : Catalog → ScriptTree → Type 0
-AreFit catalog script = AllByRecursion (IsPlaced script.rooms) script.parts × AllByRecursion (EachCommand (IsFit catalog)) script.parts
+AreFit catalog script = AllByRecursion (IsPlaced script.rooms) script.parts × AllByRecursion (EachCommand (IsFit catalog)) script.parts × AllByRecursion IsWhole script.parts
 
 -- so are those of a script that lines give
-lines-good : Fits → (catalog : Catalog) (folds : List Word) (lines : List (List ℕ)) (state : ReadState) (number : ℕ) (script : ScriptTree) → IsGood catalog state
+lines-good : Fits → (catalog : Catalog) (folds : List Word) (lines : List (List ℕ)) (state : ReadState) (number : ℕ) (script : ScriptTree) → IsRead catalog state
     → LinesGive catalog folds state number lines (Ok script) → AreFit catalog script
 lines-good laws catalog folds [] state number script good is =
-    subst (AreFit catalog) (sym (ap (λ (o : Outcome). script_in o script) (script-ended folds state number script is))) (good.placed, good.fits)
+    subst (AreFit catalog) (sym (ap (λ (o : Outcome). script_in o script) (script-ended folds state number script is))) (good.0.placed, good.0.fits, good.1.whole)
 lines-good laws catalog folds (line ∷ lines) state number script good (Ok next, gives, rest) =
     lines-good laws catalog folds lines next (number + 1) script (line-good laws catalog folds state next (number + 1) line (Ok next) good gives refl) rest
 lines-good laws catalog folds (line ∷ lines) state number script good (Err kind, gives, rest) = absurd cc
 
 -- nothing was done where nothing was read
-start-good : (catalog : Catalog) → IsGood catalog start
-start-good catalog = record { before = λ is. (refl, refl); placed = tt; fits = tt; work_placed = tt; work_fits = tt }
+start-good : (catalog : Catalog) → IsRead catalog start
+start-good catalog = (record { before = λ is. (refl, refl); placed = tt; fits = tt; work_placed = tt; work_fits = tt }, record { whole = tt; grows = tt })
 
 -- a script that was read is sound
 pub answer-sound : Fits → (catalog : Catalog) (folds : List Word) (lines : List (List ℕ)) (answer : Result Script ScriptFault)
@@ -191,5 +207,6 @@ answer-sound laws catalog folds lines (Ok script) gives =
       opens = lines-open catalog folds lines start 0 (script_tree script) (inl refl) gives;
       fits = fit.0;
       values = fit.1;
+      groups = fit.2;
     }
 answer-sound laws catalog folds lines (Err fault) gives = tt
