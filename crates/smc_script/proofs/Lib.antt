@@ -5,5 +5,6 @@ mod StateLaws
 mod ScriptLaws
 mod SoundLaws
 mod PlacedLaws
+mod GroupLaws
 mod OneLaws
 mod SomeLaws

@@ -21,7 +21,7 @@ use Rattle.smc_types.specs.declared.row.Value.{Value}
 use Rattle.smc_types.specs.declared.schema.Schema.{Schema}
 use Rattle.smc_script.specs.Faults.{LineGives, passed_over, no_text, no_command, command, said_fault, taken}
 use Rattle.smc_script.specs.Laws.{GivesOne}
-use Rattle.smc_script.specs.Names.{Given}
+use Rattle.smc_script.specs.Names.{Naming}
 use Rattle.smc_script.specs.Says.{LineSays, VerbSays, SaidTree, ColumnSays, CondSays, EditSays, RowSays, SaysQuery, SaysSet, SaysValue, SpellsRowOf, TwoThen, add, column_before, delete, kind_named, query, set, table_added, table_before, update}
 use Rattle.smc_script.specs.Scripts.{GoesOn, LinesGive, Outcome, limit_fault}
 use Rattle.smc_script.specs.States.{ReadState}
@@ -29,7 +29,7 @@ use Rattle.smc_script.specs.declared.fault.ScriptKind.{ScriptKind}
 use Rattle.smc_script.specs.declared.verb.Verb.{Verb}
 use Rattle.smc_script.specs.declared.verb.Verb.TheVariants as verb
 use Rattle.smc_script.proofs.RowLaws.{set-at}
-use Rattle.smc_script.proofs.SaysLaws.{behind-says, later, some-one, two-at}
+use Rattle.smc_script.proofs.SaysLaws.{alone-says, behind-says, later, some-one, two-at}
 
 -- ---- what a line says
 
@@ -108,14 +108,14 @@ value-one laws (Some kind) text None other says says' = absurd says
 value-one laws (Some kind) text (Some one) None says says' = absurd says'
 
 -- a setting is one
-set-one : Readings → (catalog : Catalog) (names : List Given) (text : List ℕ) (one other : SaidTree) → SaysSet catalog names text one → SaysSet catalog names text other → one ≡ other
+set-one : Readings → (catalog : Catalog) (names : Naming) (text : List ℕ) (one other : SaidTree) → SaysSet catalog names text one → SaysSet catalog names text other → one ≡ other
 set-one laws catalog names text one other a says =
     let b = set-at catalog names text a.name a.column a.value_text other a.cut says in
     a.says ∙ sym (b.says ∙ ap (λ (v : Option Value). set a.name a.column v)
     (value-one laws (kind_named catalog names a.name a.column) a.value_text b.value a.value b.spells a.spells))
 
 -- the text behind the word of a command says one thing
-verb-one : Readings → (catalog : Catalog) (names : List Given) (command : Verb) (text : List ℕ) (one other : SaidTree) → VerbSays catalog names command text one
+verb-one : Readings → (catalog : Catalog) (names : Naming) (command : Verb) (text : List ℕ) (one other : SaidTree) → VerbSays catalog names command text one
     → VerbSays catalog names command text other → one ≡ other
 verb-one laws catalog names verb.Room text one other is is' = some-one one other (sym is ∙ is')
 verb-one laws catalog names verb.Load text one other is is' = some-one one other (sym is ∙ is')
@@ -135,8 +135,9 @@ verb-one laws catalog names verb.Stat text one other is is' = some-one one other
 verb-one laws catalog names verb.Drop text one other is is' = some-one one other (sym is ∙ is')
 
 -- a line says one thing
-says-one : Readings → (catalog : Catalog) (names : List Given) (line : List ℕ) (one other : SaidTree) → LineSays catalog names line one → LineSays catalog names line other → one ≡ other
-says-one laws catalog names line one other says says' =
+says-one : Readings → (catalog : Catalog) (names : Naming) (line : List ℕ) (one other : SaidTree) → LineSays catalog names line one → LineSays catalog names line other → one ≡ other
+says-one laws catalog names line one other (inl mark) says' = some-one one other (sym mark.is ∙ alone-says catalog names line mark.word other mark.cut says')
+says-one laws catalog names line one other (inr says) says' =
     verb-one laws catalog names says.command says.text one other says.says
     (behind-says catalog names line says.word says.text says.command other says.cut says.is says')
 

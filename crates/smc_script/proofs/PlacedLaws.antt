@@ -1,5 +1,5 @@
 -- What was read is sound: its commands are placed at rooms, and what they add or set fits their tables.
-use Rattle.std.proofs.Common.{◌≡◌, ℕ, List, [], ◌∷◌, ◌++◌, map, get_or, slice_get, Bool, true, false, Option, None, Some, codes, bytes_eq, refl, sym, ap, ◌∙◌, subst}
+use Rattle.std.proofs.Common.{◌≡◌, ℕ, List, [], ◌∷◌, ◌++◌, inl, inr, map, get_or, slice_get, Bool, true, false, Option, None, Some, codes, bytes_eq, refl, sym, ap, ◌∙◌, subst}
 use Rattle.std.proofs.lemmas.Bool.{eqb-true}
 use Rattle.std.proofs.lemmas.List.Quantifiers.{position-Some}
 use Rattle.std.proofs.lemmas.Option.{slice_get-get_or, slice_get-map}
@@ -19,12 +19,13 @@ use Rattle.smc_types.specs.declared.column.FieldType.{FieldType}
 use Rattle.smc_types.specs.declared.row.Value.{Value}
 use Rattle.smc_types.specs.declared.schema.Schema.{Schema}
 use Rattle.smc_script.specs.Faults.{fault_where, has_room, is_doing, is_given, is_no_room, is_placed, knows, knows_folds, room_fault}
-use Rattle.smc_script.specs.Names.{Given, is_script_name, table_given}
-use Rattle.smc_script.specs.Says.{LineSays, VerbSays, SaidTree, ColumnSays, CondSays, EditSays, RowSays, SaysSet, SaysValue, TwoThen, room, load, add, get, set, remove, delete, update, query, compact, stat, column_before, drop_fold, drop_said, is_file_name, kind_named, load_said, name_said, room_said, slots_asked, table_added, table_before, table_said}
+use Rattle.smc_script.specs.Names.{Naming, is_script_name, is_taken, table_known}
+use Rattle.smc_script.specs.Says.{LineSays, VerbSays, SaidTree, ColumnSays, CondSays, EditSays, RowSays, SaysSet, SaysValue, TwoThen, room, load, add, get, set, remove, delete, update, query, compact, stat, column_before, drop_fold, group, worker, end, mark_of, drop_said, is_file_name, kind_named, load_said, name_said, room_said, slots_asked, table_added, table_before, table_said}
 use Rattle.smc_script.specs.Sound.{EachCommand, FitsColumn, FitsTable, IsFit, IsPlaced, IsPlacedAmong, IsRoomPlace}
-use Rattle.smc_script.specs.States.{ReadState, after, dropped_after, names_after, place_of, placed, room_at, with_command, with_room}
+use Rattle.smc_script.specs.States.{ReadState, GroupState, outside, begun, working, after, dropped_after, names_after, place_of, placed, room_at, with_command, with_group, with_numbered, with_room, with_worker, without_group, workers_of}
 use Rattle.smc_script.specs.Tables.{column_kind, kind_of, may_write, table_named}
-use Rattle.smc_script.specs.Trees.{CommandTree, PartTree, one}
+use Rattle.smc_script.specs.Trees.{CommandTree, NumberedTree, PartTree, one}
+use Rattle.smc_script.specs.Trees as trees
 use Rattle.smc_script.specs.declared.fault.ScriptKind.{ScriptKind}
 use Rattle.smc_script.specs.declared.fault.ScriptKind.TheVariants.{Room}
 use Rattle.smc_script.specs.declared.script.Room.{Room as RoomOf}
@@ -94,7 +95,7 @@ named-place rooms (Some table) is = has-place rooms table is
 -- ---- what a line says fits
 
 -- what is added or set fits its table
-abbrev pub SaidFits : Catalog → List Given → SaidTree → Type 0
+abbrev pub SaidFits : Catalog → Naming → SaidTree → Type 0
 SaidFits catalog names (add table name row) = FitsTable catalog table row
 SaidFits catalog names (set name column (Some value)) =
     (kind : FieldType) × (kind_named catalog names name column ≡ Some kind) × (value_fault kind value ≡ None)
@@ -117,7 +118,23 @@ of-test : (holds : SaidTree → Type 0) (test : Bool) (found : Option SaidTree) 
 of-test holds true found said goes is = goes is
 of-test holds false found said goes is = absurd cc
 
-room-fits : (catalog : Catalog) (names : List Given) (list : List Word) (said : SaidTree) → room_said catalog list ≡ Some said → SaidFits catalog names said
+-- the same of a test that lets one of two through
+of-either : (holds : SaidTree → Type 0) (test : Bool) (this other : Option SaidTree) (said : SaidTree) → (this ≡ Some said → holds said) → (other ≡ Some said → holds said)
+    → (if test then this else other) ≡ Some said → holds said
+of-either holds true this other said goes rest is = goes is
+of-either holds false this other said goes rest is = rest is
+
+-- what a word of groups says fits
+mark-fits : (catalog : Catalog) (names : Naming) (word : Word) (said : SaidTree) → mark_of word ≡ Some said → SaidFits catalog names said
+mark-fits catalog names word said is =
+    of-either (SaidFits catalog names) (bytes_eq word (codes "group")) (Some group)
+    (if bytes_eq word (codes "worker") then Some worker else if bytes_eq word (codes "end") then Some end else None) said
+    (λ same. subst (SaidFits catalog names) (some-one group said same) tt)
+    (of-either (SaidFits catalog names) (bytes_eq word (codes "worker")) (Some worker) (if bytes_eq word (codes "end") then Some end else None) said
+    (λ same. subst (SaidFits catalog names) (some-one worker said same) tt)
+    (of-test (SaidFits catalog names) (bytes_eq word (codes "end")) (Some end) said (λ same. subst (SaidFits catalog names) (some-one end said same) tt))) is
+
+room-fits : (catalog : Catalog) (names : Naming) (list : List Word) (said : SaidTree) → room_said catalog list ≡ Some said → SaidFits catalog names said
 room-fits catalog names (table ∷ digits ∷ []) said is =
     of-test (SaidFits catalog names) (is_number digits) (option_map (λ t. room t (slots_asked digits)) (table_named catalog table)) said
     (of-mapped (SaidFits catalog names) (λ t. room t (slots_asked digits)) (λ t. tt) (table_named catalog table) said) is
@@ -125,7 +142,7 @@ room-fits catalog names [] said is = absurd cc
 room-fits catalog names (x ∷ []) said is = absurd cc
 room-fits catalog names (x ∷ y ∷ z ∷ more) said is = absurd cc
 
-load-fits : (catalog : Catalog) (names : List Given) (list : List Word) (said : SaidTree) → load_said catalog list ≡ Some said → SaidFits catalog names said
+load-fits : (catalog : Catalog) (names : Naming) (list : List Word) (said : SaidTree) → load_said catalog list ≡ Some said → SaidFits catalog names said
 load-fits catalog names (table ∷ file ∷ []) said is =
     of-test (SaidFits catalog names) (is_file_name file) (option_map (λ t. load t file) (table_named catalog table)) said
     (of-mapped (SaidFits catalog names) (λ t. load t file) (λ t. tt) (table_named catalog table) said) is
@@ -133,13 +150,13 @@ load-fits catalog names [] said is = absurd cc
 load-fits catalog names (x ∷ []) said is = absurd cc
 load-fits catalog names (x ∷ y ∷ z ∷ more) said is = absurd cc
 
-table-fits : (say : ℕ → SaidTree) (catalog : Catalog) (names : List Given) (list : List Word) (said : SaidTree) → ((table : ℕ) → SaidFits catalog names (say table))
+table-fits : (say : ℕ → SaidTree) (catalog : Catalog) (names : Naming) (list : List Word) (said : SaidTree) → ((table : ℕ) → SaidFits catalog names (say table))
     → table_said say catalog list ≡ Some said → SaidFits catalog names said
 table-fits say catalog names (table ∷ []) said each is = of-mapped (SaidFits catalog names) say each (table_named catalog table) said is
 table-fits say catalog names [] said each is = absurd cc
 table-fits say catalog names (x ∷ y ∷ more) said each is = absurd cc
 
-name-fits : (say : Word → SaidTree) (catalog : Catalog) (names : List Given) (list : List Word) (said : SaidTree) → ((name : Word) → SaidFits catalog names (say name))
+name-fits : (say : Word → SaidTree) (catalog : Catalog) (names : Naming) (list : List Word) (said : SaidTree) → ((name : Word) → SaidFits catalog names (say name))
     → name_said say list ≡ Some said → SaidFits catalog names said
 name-fits say catalog names (name ∷ []) said each is =
     of-test (SaidFits catalog names) (is_script_name name) (Some (say name)) said
@@ -147,7 +164,7 @@ name-fits say catalog names (name ∷ []) said each is =
 name-fits say catalog names [] said each is = absurd cc
 name-fits say catalog names (x ∷ y ∷ more) said each is = absurd cc
 
-drop-fits : (catalog : Catalog) (names : List Given) (list : List Word) (said : SaidTree) → drop_said list ≡ Some said → SaidFits catalog names said
+drop-fits : (catalog : Catalog) (names : Naming) (list : List Word) (said : SaidTree) → drop_said list ≡ Some said → SaidFits catalog names said
 drop-fits catalog names (word ∷ name ∷ []) said is =
     of-test (SaidFits catalog names) (bytes_eq word (codes "fold") && is_script_name name) (Some (drop_fold name)) said
     (λ same. subst (SaidFits catalog names) (some-one (drop_fold name) said same) tt) is
@@ -161,26 +178,27 @@ two-fits : (holds : SaidTree → Type 0) (head : Word → Word → Option ℕ) (
 two-fits holds head reads text said each two = each two.table two.first two.second two.behind two.says
 
 -- what is added fits its table
-row-fits : Fits → (catalog : Catalog) (names : List Given) (table : ℕ) (name : Word) (text : List ℕ) (said : SaidTree) → RowSays catalog table name text said → SaidFits catalog names said
+row-fits : Fits → (catalog : Catalog) (names : Naming) (table : ℕ) (name : Word) (text : List ℕ) (said : SaidTree) → RowSays catalog table name text said → SaidFits catalog names said
 row-fits laws catalog names table name text said (row, is, (schema, same, spells)) =
     subst (SaidFits catalog names) (sym is)
     (record { schema = schema; is = same; fits = laws.row schema text row spells; texts = laws.texts schema text row spells })
 
 -- what is set fits its column
-value-fits : Fits → (catalog : Catalog) (names : List Given) (name column text : Word) (value : Option Value) (kind : Option FieldType) → kind_named catalog names name column ≡ kind
+value-fits : Fits → (catalog : Catalog) (names : Naming) (name column text : Word) (value : Option Value) (kind : Option FieldType) → kind_named catalog names name column ≡ kind
     → SaysValue kind text value → SaidFits catalog names (set name column value)
 value-fits laws catalog names name column text None kind is says = tt
 value-fits laws catalog names name column text (Some value) (Some kind) is says = (kind, is, laws.value kind text value says)
 value-fits laws catalog names name column text (Some value) None is says = absurd cc
 
-set-fits : Fits → (catalog : Catalog) (names : List Given) (text : List ℕ) (said : SaidTree) → SaysSet catalog names text said → SaidFits catalog names said
+set-fits : Fits → (catalog : Catalog) (names : Naming) (text : List ℕ) (said : SaidTree) → SaysSet catalog names text said → SaidFits catalog names said
 set-fits laws catalog names text said s =
     subst (SaidFits catalog names) (sym s.says)
     (value-fits laws catalog names s.name s.column s.value_text s.value (kind_named catalog names s.name s.column) refl s.spells)
 
 -- what a line says fits
-pub line-fits : Fits → (catalog : Catalog) (names : List Given) (line : List ℕ) (said : SaidTree) → LineSays catalog names line said → SaidFits catalog names said
-line-fits laws catalog names line said says = go says.command says.says
+pub line-fits : Fits → (catalog : Catalog) (names : Naming) (line : List ℕ) (said : SaidTree) → LineSays catalog names line said → SaidFits catalog names said
+line-fits laws catalog names line said (inl mark) = mark-fits catalog names mark.word said mark.is
+line-fits laws catalog names line said (inr says) = go says.command says.says
   where
     go : (command : _) → VerbSays catalog names command says.text said → SaidFits catalog names said
     go verb.Room is = room-fits catalog names (words says.text) said is
@@ -217,15 +235,28 @@ column-fits catalog (Some table) column value kind is good may = record {
 -- ---- more commands, and more rooms
 
 -- what holds of each of a list holds of each of a list with one more
-all-more : {A : Type 0} (P : A → Type 0) (list : List A) (last : A) → AllByRecursion P list → P last → AllByRecursion P (list ++ last ∷ [])
+pub all-more : {A : Type 0} (P : A → Type 0) (list : List A) (last : A) → AllByRecursion P list → P last → AllByRecursion P (list ++ last ∷ [])
 all-more P [] last all holds = (holds, tt)
 all-more P (a ∷ list) last (first, all) holds = (first, all-more P list last all holds)
 
--- before the first command nothing was done; each part of what was read is placed among its rooms, and fits its tables
+-- the same of each of a list of lists with one more in the last
+pub work-more : {A : Type 0} (P : A → Type 0) (workers : List (List A)) (commands : List A) (last : A) → AllByRecursion (AllByRecursion P) (workers ++ commands ∷ []) → P last
+    → AllByRecursion (AllByRecursion P) (workers ++ (commands ++ last ∷ []) ∷ [])
+work-more P [] commands last (all, rest) holds = (all-more P commands last all holds, tt)
+work-more P (worker' ∷ workers) commands last (first, all) holds = (first, work-more P workers commands last all holds)
+
+-- the open group as a part, the last worker with its commands so far
+abbrev pub group_part : GroupState → PartTree
+group_part state = trees.group (workers_of state)
+
+-- before the first command nothing was done; each part of what was read, and the open group, is placed among its rooms, and
+-- fits its tables
 pub record IsGood (catalog : Catalog) (state : ReadState) : Type 0 where
-  pub before : state.phase ≡ Asking → state.parts ≡ []
+  pub before : state.phase ≡ Asking → (state.parts ≡ []) × (state.group ≡ outside)
   pub placed : AllByRecursion (IsPlaced (rooms_of state.rooms)) state.parts
   pub fits : AllByRecursion (EachCommand (IsFit catalog)) state.parts
+  pub work_placed : IsPlaced (rooms_of state.rooms) (group_part state.group)
+  pub work_fits : EachCommand (IsFit catalog) (group_part state.group)
 
 -- rooms are asked for before the first command
 asking-by : (phase : Phase) → is_doing phase ≡ false → phase ≡ Asking
@@ -239,23 +270,75 @@ room-good catalog state table slots good is =
     let rooms : List Asked = with_room (record { table = table; slots = slots }) state.rooms in
     let asking = asking-by state.phase (none-first (is_doing state.phase) (has_room state.rooms table) (is_no_room catalog state.rooms table (Some slots))
     (fault-none (is_doing state.phase || has_room state.rooms table || is_no_room catalog state.rooms table (Some slots)) Room is)) in
-    let none : state.parts ≡ [] = good.before asking in record {
+    let none = good.before asking in record {
       before = good.before;
-      placed = subst (λ (parts : List PartTree). AllByRecursion (IsPlaced (rooms_of rooms)) parts) (sym none) tt;
+      placed = subst (λ (parts : List PartTree). AllByRecursion (IsPlaced (rooms_of rooms)) parts) (sym none.0) tt;
       fits = good.fits;
+      work_placed = subst (λ (g : GroupState). IsPlaced (rooms_of rooms) (group_part g)) (sym none.1) tt;
+      work_fits = good.work_fits;
     }
 
--- one more command with a place that fits leaves what was read good
-command-good : (catalog : Catalog) (state : ReadState) (names : List Given) (dropped : List Word) (line : ℕ) (command : CommandTree) → IsGood catalog state
-    → IsPlacedAmong (rooms_of state.rooms) command → IsFit catalog command → IsGood catalog (with_command (record state { names = names; dropped = dropped }) line (Some command))
-command-good catalog state names dropped line command good is fits = record {
-  before = λ asking. absurd (doing asking);
-  placed = all-more (IsPlaced (rooms_of state.rooms)) state.parts (one (record { line = line; command = command })) good.placed is;
-  fits = all-more (EachCommand (IsFit catalog)) state.parts (one (record { line = line; command = command })) good.fits fits;
+-- commands have begun where they have
+doing : {A : Type 0} → Doing ≡ Asking → A
+doing asking = absurd cc
+
+-- one more command with a place that fits leaves what was read good, in a group or outside of one
+numbered-good : (catalog : Catalog) (state : ReadState) (group' : GroupState) (names : Naming) (dropped : List Word) (numbered : NumberedTree) → state.group ≡ group' → IsGood catalog state
+    → IsPlacedAmong (rooms_of state.rooms) numbered.command → IsFit catalog numbered.command
+    → IsGood catalog (with_numbered (record state { names = names; dropped = dropped }) group' numbered)
+numbered-good catalog state outside names dropped numbered at good is fits = record {
+  before = doing;
+  placed = all-more (IsPlaced (rooms_of state.rooms)) state.parts (one numbered) good.placed is;
+  fits = all-more (EachCommand (IsFit catalog)) state.parts (one numbered) good.fits fits;
+  work_placed = good.work_placed;
+  work_fits = good.work_fits;
 }
-  where
-    doing : Doing ≡ Asking → ⊥
-    doing asking = cc
+numbered-good catalog state begun names dropped numbered at good is fits = record {
+  before = doing;
+  placed = all-more (IsPlaced (rooms_of state.rooms)) state.parts (one numbered) good.placed is;
+  fits = all-more (EachCommand (IsFit catalog)) state.parts (one numbered) good.fits fits;
+  work_placed = good.work_placed;
+  work_fits = good.work_fits;
+}
+numbered-good catalog state (working workers commands) names dropped numbered at good is fits = record {
+  before = doing;
+  placed = good.placed;
+  fits = good.fits;
+  work_placed =
+      work-more (λ (n : NumberedTree). IsPlacedAmong (rooms_of state.rooms) n.command) workers commands numbered
+      (subst (λ (g : GroupState). IsPlaced (rooms_of state.rooms) (group_part g)) at good.work_placed) is;
+  work_fits =
+      work-more (λ (n : NumberedTree). IsFit catalog n.command) workers commands numbered
+      (subst (λ (g : GroupState). EachCommand (IsFit catalog) (group_part g)) at good.work_fits) fits;
+}
+
+command-good : (catalog : Catalog) (state : ReadState) (names : Naming) (dropped : List Word) (line : ℕ) (command : CommandTree) → IsGood catalog state
+    → IsPlacedAmong (rooms_of state.rooms) command → IsFit catalog command → IsGood catalog (with_command (record state { names = names; dropped = dropped }) line (Some command))
+command-good catalog state names dropped line command good is fits =
+    numbered-good catalog state state.group names dropped (record { line = line; command = command }) refl good is fits
+
+-- so does the line that begins a group, begins a worker, or ends a group
+group-good : (catalog : Catalog) (state : ReadState) (names : Naming) → IsGood catalog state → IsGood catalog (with_group (record state { names = names }))
+group-good catalog state names good = record { before = doing; placed = good.placed; fits = good.fits; work_placed = tt; work_fits = tt }
+
+worker-good : (catalog : Catalog) (state : ReadState) (names : Naming) → IsGood catalog state → IsGood catalog (with_worker (record state { names = names }))
+worker-good catalog state names good = record {
+  before = doing;
+  placed = good.placed;
+  fits = good.fits;
+  work_placed =
+      all-more (AllByRecursion (λ (n : NumberedTree). IsPlacedAmong (rooms_of state.rooms) n.command)) (workers_of state.group) [] good.work_placed tt;
+  work_fits = all-more (AllByRecursion (λ (n : NumberedTree). IsFit catalog n.command)) (workers_of state.group) [] good.work_fits tt;
+}
+
+end-good : (catalog : Catalog) (state : ReadState) (names : Naming) → IsGood catalog state → IsGood catalog (without_group (record state { names = names }))
+end-good catalog state names good = record {
+  before = doing;
+  placed = all-more (IsPlaced (rooms_of state.rooms)) state.parts (group_part state.group) good.placed good.work_placed;
+  fits = all-more (EachCommand (IsFit catalog)) state.parts (group_part state.group) good.fits good.work_fits;
+  work_placed = tt;
+  work_fits = tt;
+}
 
 -- a line that is taken leaves what was read good
 pub after-good : (catalog : Catalog) (folds : List Word) (state : ReadState) (line : ℕ) (said : SaidTree) → IsGood catalog state → SaidFits catalog state.names said
@@ -265,18 +348,18 @@ after-good catalog folds state line (room table None) good fits opens is = good
 after-good catalog folds state line (load table file) good fits opens is =
     command-good catalog state state.names state.dropped line _ good (has-place state.rooms table is) tt
 after-good catalog folds state line (add table name row) good fits opens is =
-    command-good catalog state (names_after state.names (add table name row)) state.dropped line _ good
-    (has-place state.rooms table (first-true (has_room state.rooms table) (not (is_some (table_given state.names name))) is)) fits
+    command-good catalog state (names_after state.names line (add table name row)) state.dropped line _ good
+    (has-place state.rooms table (first-true (has_room state.rooms table) (not (is_taken state.names name)) is)) fits
 after-good catalog folds state line (get name) good fits opens is =
-    command-good catalog state state.names state.dropped line _ good (named-place state.rooms (table_given state.names name) is) tt
+    command-good catalog state state.names state.dropped line _ good (named-place state.rooms (table_known state.names name) is) tt
 after-good catalog folds state line (set name column (Some value)) good fits opens is =
     let kind = kind_named catalog state.names name column in
     command-good catalog state state.names state.dropped line _ good
-    (named-place state.rooms (table_given state.names name) (first-true (is_given state name) (may_write kind) is))
-    (column-fits catalog (table_given state.names name) column value fits.0 fits.1 fits.2 (second-true (is_given state name) (may_write kind) is))
+    (named-place state.rooms (table_known state.names name) (first-true (is_given state name) (may_write kind) is))
+    (column-fits catalog (table_known state.names name) column value fits.0 fits.1 fits.2 (second-true (is_given state name) (may_write kind) is))
 after-good catalog folds state line (set name column None) good fits opens is = good
 after-good catalog folds state line (remove name) good fits opens is =
-    command-good catalog state state.names state.dropped line _ good (named-place state.rooms (table_given state.names name) is) tt
+    command-good catalog state state.names state.dropped line _ good (named-place state.rooms (table_known state.names name) is) tt
 after-good catalog folds state line (delete table cond) good fits opens is =
     command-good catalog state state.names state.dropped line _ good (has-place state.rooms table is) tt
 after-good catalog folds state line (update table column value filter) good fits opens is =
@@ -291,3 +374,6 @@ after-good catalog folds state line (stat table) good fits opens is =
     command-good catalog state state.names state.dropped line _ good (has-place state.rooms table is) tt
 after-good catalog folds state line (drop_fold name) good fits opens is =
     command-good catalog state state.names (dropped_after state.dropped (drop_fold name)) line _ good tt tt
+after-good catalog folds state line group good fits opens is = group-good catalog state (names_after state.names line group) good
+after-good catalog folds state line worker good fits opens is = worker-good catalog state (names_after state.names line worker) good
+after-good catalog folds state line end good fits opens is = end-good catalog state (names_after state.names line end) good

@@ -11,7 +11,7 @@ use Rattle.smc_types.specs.declared.catalog.Catalog.{Catalog}
 use Rattle.smc_types.specs.declared.column.FieldType.{FieldType}
 use Rattle.smc_types.specs.declared.row.Value.{Value}
 use Rattle.smc_types.specs.declared.schema.Schema.{Schema}
-use Rattle.smc_script.specs.Names.{Given}
+use Rattle.smc_script.specs.Names.{Naming}
 use Rattle.smc_script.specs.Says.{SaidTree, RowSays, SaysSet, SaysValue, IsRowRead, IsValueRead, set, is_row_memory, is_set, kind_named}
 use Rattle.smc_script.specs.Tables.{schema_of}
 use Rattle.smc_script.proofs.SaysLaws.{first_word, later, some-one}
@@ -58,13 +58,13 @@ value-read kind text none None says = says
 value-read kind text none (Some value) says = none value says
 
 -- what a setting says, by its words
-pub record SetAt (catalog : Catalog) (names : List Given) (name column value_text : Word) (said : SaidTree) : Type 0 where
+pub record SetAt (catalog : Catalog) (names : Naming) (name column value_text : Word) (said : SaidTree) : Type 0 where
   pub value : Option Value
   pub head : is_set name column ≡ true
   pub spells : SaysValue (kind_named catalog names name column) value_text value
   pub says : said ≡ set name column value
 
-pub set-at : (catalog : Catalog) (names : List Given) (text : List ℕ) (name column value_text : Word) (said : SaidTree) → words text ≡ name ∷ column ∷ value_text ∷ []
+pub set-at : (catalog : Catalog) (names : Naming) (text : List ℕ) (name column value_text : Word) (said : SaidTree) → words text ≡ name ∷ column ∷ value_text ∷ []
     → SaysSet catalog names text said → SetAt catalog names name column value_text said
 set-at catalog names text name column value_text said is s =
     let same : s.name ∷ s.column ∷ s.value_text ∷ [] ≡ name ∷ column ∷ value_text ∷ [] = sym s.cut ∙ is in
@@ -81,12 +81,12 @@ set-at catalog names text name column value_text said is s =
     }
 
 -- without three words nothing is set
-pub no-words : (catalog : Catalog) (names : List Given) (text : List ℕ) → ((first second third : Word) → words text ≢ first ∷ second ∷ third ∷ [])
+pub no-words : (catalog : Catalog) (names : Naming) (text : List ℕ) → ((first second third : Word) → words text ≢ first ∷ second ∷ third ∷ [])
     → (said : SaidTree) → ¬ SaysSet catalog names text said
 no-words catalog names text none said s = none s.name s.column s.value_text s.cut
 
 -- nor without a name and a column
-pub no-set : (catalog : Catalog) (names : List Given) (text : List ℕ) (name column value_text : Word) → words text ≡ name ∷ column ∷ value_text ∷ [] → is_set name column ≡ false
+pub no-set : (catalog : Catalog) (names : Naming) (text : List ℕ) (name column value_text : Word) → words text ≡ name ∷ column ∷ value_text ∷ [] → is_set name column ≡ false
     → (said : SaidTree) → ¬ SaysSet catalog names text said
 no-set catalog names text name column value_text is none said s =
     let at = set-at catalog names text name column value_text said is s in
@@ -94,7 +94,7 @@ no-set catalog names text name column value_text is none said s =
     absurd cc
 
 -- nor without a value of the column
-pub no-value : (catalog : Catalog) (names : List Given) (text : List ℕ) (name column value_text : Word) → words text ≡ name ∷ column ∷ value_text ∷ []
+pub no-value : (catalog : Catalog) (names : Naming) (text : List ℕ) (name column value_text : Word) → words text ≡ name ∷ column ∷ value_text ∷ []
     → IsValueRead (kind_named catalog names name column) value_text None → (said : SaidTree) → ¬ SaysSet catalog names text said
 no-value catalog names text name column value_text is none said s =
     let at = set-at catalog names text name column value_text said is s in

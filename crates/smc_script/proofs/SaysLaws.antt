@@ -1,5 +1,5 @@
 -- What lines say, and how it is read from them.
-use Rattle.std.proofs.Common.{◌≡◌, ◌≢◌, ℕ, List, [], ◌∷◌, length, false, Option, None, Some, refl, sym, ap, ◌∙◌, subst, arith}
+use Rattle.std.proofs.Common.{◌≡◌, ◌≢◌, ℕ, List, [], ◌∷◌, inl, inr, length, false, Option, None, Some, refl, sym, ap, ◌∙◌, subst, arith}
 use Rattle.std.specs.Option.{option_map, unwrap_or}
 use Rattle.std.specs.Prelude.{◌≤◌, nat_eq, IfOk, Ok, Err}
 use Rattle.std.specs.declared.result.Result.{Result}
@@ -15,8 +15,8 @@ use Rattle.smc_lang.specs.declared.limits.TheConstants.{MAX_TEXT}
 use Rattle.smc_query.specs.Trees.{Word, Answer, Form, a_cond, a_query, an_edit, cond_text, edit_text, query_text, query_tree}
 use Rattle.smc_query.specs.declared.query.Query.{Query}
 use Rattle.smc_types.specs.declared.catalog.Catalog.{Catalog}
-use Rattle.smc_script.specs.Names.{Given}
-use Rattle.smc_script.specs.Says.{SaidTree, LineSays, VerbSays, QuerySays, IsSaid, IsSaidBy, IsReadAs, IsCondRead, IsEditRead, IsQueryRead, CondSays, EditSays, TwoThen, is_memory, said_tree, verb_of}
+use Rattle.smc_script.specs.Names.{Naming}
+use Rattle.smc_script.specs.Says.{SaidTree, CommandSays, LineSays, MarkSays, VerbSays, QuerySays, IsSaid, IsSaidBy, IsReadAs, IsCondRead, IsEditRead, IsQueryRead, CondSays, EditSays, TwoThen, is_memory, mark_of, said_tree, verb_of}
 use Rattle.smc_script.specs.declared.said.Said.{Said}
 use Rattle.smc_script.specs.declared.said.Said.TheVariants as of
 use Rattle.smc_script.specs.declared.verb.Verb.{Verb}
@@ -64,10 +64,15 @@ two-alone text behind first second is is' a b c same =
 
 -- ---- lines
 
+-- a line with a text behind its first word is not one word
+not-alone : (line word text other : List ℕ) → words line ≡ word ∷ words text → words line ≡ other ∷ [] → ⊥
+not-alone line word text other cut is = words-some text (ap later (sym cut ∙ is))
+
 -- what a line says that begins with this word is what the text behind it says
-pub behind-says : (catalog : Catalog) (names : List Given) (line word text : List ℕ) (command : Verb) (said : SaidTree) → words line ≡ word ∷ words text → verb_of word ≡ Some command
+pub behind-says : (catalog : Catalog) (names : Naming) (line word text : List ℕ) (command : Verb) (said : SaidTree) → words line ≡ word ∷ words text → verb_of word ≡ Some command
     → LineSays catalog names line said → VerbSays catalog names command text said
-behind-says catalog names line word text command said cut is line' =
+behind-says catalog names line word text command said cut is (inl mark) = absurd (not-alone line word text mark.word cut mark.cut)
+behind-says catalog names line word text command said cut is (inr line') =
     let same_word : line'.word ≡ word = word-one line line'.word word (words line'.text) (words text) line'.cut cut in
     let same_text : line'.text ≡ text = text-one line line'.word word line'.text text line'.cut cut in
     let same_verb : line'.command ≡ command = some-one line'.command command (sym line'.is ∙ ap verb_of same_word ∙ is) in
@@ -75,27 +80,34 @@ behind-says catalog names line word text command said cut is line' =
     (subst (λ (v : Verb). VerbSays catalog names v line'.text said) same_verb line'.says)
 
 -- what was read of the text behind the word of a command is what the line says
-pub line-said : (catalog : Catalog) (names : List Given) (line word text : List ℕ) (command : Verb) (said : Option Said) → words line ≡ word ∷ words text → verb_of word ≡ Some command
+pub line-said : (catalog : Catalog) (names : Naming) (line word text : List ℕ) (command : Verb) (said : Option Said) → words line ≡ word ∷ words text → verb_of word ≡ Some command
     → IsSaidBy catalog names command text said → IsSaid catalog names line said
 line-said catalog names line word text command (Some said) cut is says =
-    record { word = word; command = command; text = text; cut = cut; is = is; says = says }
+    inr (record { word = word; command = command; text = text; cut = cut; is = is; says = says })
 line-said catalog names line word text command None cut is none = λ said says. none said (behind-says catalog names line word text command said cut is says)
 
 -- the same of an answer that may be want of memory
-pub line-answered : {F : Type 0} (catalog : Catalog) (names : List Given) (line word text : List ℕ) (command : Verb) (answer : Result (Option Said) F) → words line ≡ word ∷ words text
+pub line-answered : {F : Type 0} (catalog : Catalog) (names : Naming) (line word text : List ℕ) (command : Verb) (answer : Result (Option Said) F) → words line ≡ word ∷ words text
     → verb_of word ≡ Some command → IfOk answer (IsSaidBy catalog names command text) → IfOk answer (IsSaid catalog names line)
 line-answered catalog names line word text command (Ok said) cut is says = line-said catalog names line word text command said cut is says
 line-answered catalog names line word text command (Err fault) cut is says = tt
 
--- a line that is one word says nothing
-pub alone-nothing : (catalog : Catalog) (names : List Given) (line word : List ℕ) → words line ≡ word ∷ [] → (said : SaidTree) → ¬ LineSays catalog names line said
-alone-nothing catalog names line word is said says = words-some says.text (ap later (sym says.cut ∙ is))
+-- what a line says that is one word is what this word says of groups
+pub alone-says : (catalog : Catalog) (names : Naming) (line word : List ℕ) (said : SaidTree) → words line ≡ word ∷ [] → LineSays catalog names line said → mark_of word ≡ Some said
+alone-says catalog names line word said cut (inl mark) = ap mark_of (word-one line word mark.word [] [] cut mark.cut) ∙ mark.is
+alone-says catalog names line word said cut (inr command) = absurd (not-alone line command.word command.text word command.cut cut)
 
--- nor does one whose first word begins no command
-pub no-verb : (catalog : Catalog) (names : List Given) (line word : List ℕ) (rest : List Word) → words line ≡ word ∷ rest → verb_of word ≡ None
+-- what was read of a line that is one word is what it says
+pub mark-said : (catalog : Catalog) (names : Naming) (line word : List ℕ) (said : Option Said) → words line ≡ word ∷ [] → option_map said_tree said ≡ mark_of word → IsSaid catalog names line said
+mark-said catalog names line word (Some said) cut is = inl (record { word = word; cut = cut; is = sym is })
+mark-said catalog names line word None cut is = λ said says. let no : None ≡ Some said = is ∙ alone-says catalog names line word said cut says in absurd cc
+
+-- a line whose first word begins no command, with a text behind it, says nothing
+pub no-verb : (catalog : Catalog) (names : Naming) (line word text : List ℕ) → words line ≡ word ∷ words text → verb_of word ≡ None
     → (said : SaidTree) → ¬ LineSays catalog names line said
-no-verb catalog names line word rest cut none said says =
-    let no : Some says.command ≡ None = sym says.is ∙ ap verb_of (word-one line says.word word (words says.text) rest says.cut cut) ∙ none in
+no-verb catalog names line word text cut none said (inl mark) = not-alone line word text mark.word cut mark.cut
+no-verb catalog names line word text cut none said (inr says) =
+    let no : Some says.command ≡ None = sym says.is ∙ ap verb_of (word-one line says.word word (words says.text) (words text) says.cut cut) ∙ none in
     absurd cc
 
 -- what was read by a function of the words is what it says

@@ -1,8 +1,8 @@
 -- What lines give, one after the other.
-use Rattle.std.proofs.Common.{◌≡◌, ℕ, ◌+◌, List, [], ◌∷◌, ◌++◌, inl, inr, length, Option, None, Some, Ok, Err, refl, sym, ap, ◌∙◌, subst, arith}
+use Rattle.std.proofs.Common.{◌≡◌, ℕ, ◌+◌, List, [], ◌∷◌, ◌++◌, inl, inr, length, Bool, true, false, Option, None, Some, Ok, Err, refl, sym, ap, ◌∙◌, subst, arith}
 use Rattle.std.proofs.lemmas.List.Elements.{All-head, All-tail}
 use Rattle.std.specs.List.{All}
-use Rattle.std.specs.Prelude.{IfErr, IfOk}
+use Rattle.std.specs.Prelude.{if◌then◌else◌, IfErr, IfOk}
 use Rattle.std.specs.declared.result.Result.{Result}
 use Rattle.smc_lines.specs.Ahead.{Counts, Gives, IsPassedOver, PassesOver, Takes}
 use Rattle.smc_lines.specs.Reading.{PassesLimit, Reads, UnlessMemory}
@@ -16,14 +16,15 @@ use Rattle.smc_query.specs.Trees.{Word}
 use Rattle.smc_types.specs.declared.catalog.Catalog.{Catalog}
 use Rattle.smc_script.specs.Faults.{LineGives, passed_over, no_text, no_command, command, line_answer, said_fault, taken}
 use Rattle.smc_script.specs.Says.{LineSays, SaidTree}
-use Rattle.smc_script.specs.Scripts.{Answers, LinesEnd, LinesGive, Outcome, TextGives, limit_fault}
-use Rattle.smc_script.specs.States.{ReadState, script_of, start}
-use Rattle.smc_script.specs.Trees.{script_tree}
+use Rattle.smc_script.specs.Scripts.{Answers, LinesEnd, LinesGive, Outcome, TextGives, end_gives, limit_fault}
+use Rattle.smc_script.specs.States.{ReadState, is_open, reading, script_of, start}
+use Rattle.smc_script.specs.Trees.{ScriptTree, script_tree}
 use Rattle.smc_script.specs.declared.fault.ScriptFault.{ScriptFault}
 use Rattle.smc_script.specs.declared.fault.ScriptFault.TheVariants.{Bad, NoMemory, ReadFault}
 use Rattle.smc_script.specs.declared.fault.ScriptKind.{ScriptKind}
-use Rattle.smc_script.specs.declared.fault.ScriptKind.TheVariants.{Grammar}
+use Rattle.smc_script.specs.declared.fault.ScriptKind.TheVariants.{Grammar, Group}
 use Rattle.smc_script.specs.declared.script.Script.{Script}
+use Rattle.smc_script.specs.declared.state.Reader.{Reader}
 
 -- lines that are passed over change nothing of what the later ones give
 pass-over : (catalog : Catalog) (folds : List Word) (state : ReadState) (outcome : Outcome) (passed later : List (List ℕ)) (number : ℕ) → All IsPassedOver passed
@@ -52,12 +53,32 @@ next-line : (catalog : Catalog) (folds : List Word) (state : ReadState) (outcome
 next-line catalog folds state outcome between behind line takes gives =
     subst (λ (lines : List (List ℕ)). LinesGive catalog folds state between.number lines outcome) (sym takes.parts) gives
 
--- where no line is left, the script is what was read
-pub none-left : (catalog : Catalog) (folds : List Word) (state : ReadState) (before behind : Rest) → Gives (Ok None) before behind
-    → LinesGive catalog folds state before.number before.lines (Ok (script_of folds state))
-none-left catalog folds state before behind (passes, none) =
-    over-rest catalog folds state (Ok (script_of folds state)) before behind passes
-    (subst (λ (lines : List (List ℕ)). LinesGive catalog folds state behind.number lines (Ok (script_of folds state))) (sym none) refl)
+-- what the end of lines gives, by whether a group is open
+abbrev pub ended_by : List Word → ReadState → ℕ → Bool → Outcome
+ended_by folds state number opened = if opened then Err (Bad (number + 1) Group) else Ok (script_of folds state)
+
+-- the script that an end gives is what was read
+script-by : (folds : List Word) (state : ReadState) (number : ℕ) (script : ScriptTree) (opened : Bool) → Ok script ≡ ended_by folds state number opened → Ok script ≡ ended_by folds state number false
+script-by folds state number script true is = absurd cc
+script-by folds state number script false is = is
+
+pub script-ended : (folds : List Word) (state : ReadState) (number : ℕ) (script : ScriptTree) → Ok script ≡ end_gives folds state number → Ok script ≡ ended_by folds state number false
+script-ended folds state number script is = script-by folds state number script (is_open state.group) is
+
+-- where no line is left, the lines give what their end gives
+pub none-left : (catalog : Catalog) (folds : List Word) (state : ReadState) (before behind : Rest) (outcome : Outcome) → Gives (Ok None) before behind
+    → outcome ≡ end_gives folds state behind.number → LinesGive catalog folds state before.number before.lines outcome
+none-left catalog folds state before behind outcome (passes, none) is =
+    over-rest catalog folds state outcome before behind passes
+    (subst (λ (lines : List (List ℕ)). LinesGive catalog folds state behind.number lines outcome) (sym none) is)
+
+-- an end of the reading of lines, where one kind of outcome is another
+pub ends-from : (answer : Result Reader ScriptFault) (folds : List Word) (one other : Outcome → Type 0) → ((outcome : Outcome) → one outcome → other outcome) → LinesEnd answer one folds
+    → LinesEnd answer other folds
+ends-from (Ok reader) folds one other goes ends = goes (Ok (script_of folds (reading reader))) ends
+ends-from (Err (Bad line kind)) folds one other goes ends = goes (Err (Bad line kind)) ends
+ends-from (Err NoMemory) folds one other goes ends = tt
+ends-from (Err ReadFault) folds one other goes ends = ends
 
 -- a line that is no text is refused
 pub text-refused : (catalog : Catalog) (folds : List Word) (state : ReadState) (before behind : Rest) (bad : BadLine) → Gives (Err bad) before behind

@@ -26,19 +26,20 @@ use Rattle.smc_types.specs.declared.row.Value.{Value}
 use Rattle.smc_types.specs.declared.schema.Schema.{Schema}
 use Rattle.smc_script.specs.Faults.{LineGives, passed_over, no_text, no_command, command, said_fault, taken}
 use Rattle.smc_script.specs.Laws.{GivesSome, HasRefused, SpellsSome}
-use Rattle.smc_script.specs.Names.{Given}
-use Rattle.smc_script.specs.Says.{LineSays, VerbSays, SaidTree, ColumnSays, CondSays, EditSays, QuerySays, RowSays, SaysQuery, SaysSet, SaysValue, SpellsRowOf, TwoThen, add, get, remove, set, delete, update, query, compact, stat, column_before, drop_said, is_set, kind_named, load_said, name_said, room_said, table_added, table_before, table_said, verb_of}
+use Rattle.smc_script.specs.Names.{Naming}
+use Rattle.smc_script.specs.Says.{LineSays, VerbSays, SaidTree, ColumnSays, CondSays, EditSays, QuerySays, RowSays, SaysQuery, SaysSet, SaysValue, SpellsRowOf, TwoThen, add, get, remove, set, delete, update, query, compact, stat, column_before, drop_said, is_set, kind_named, load_said, mark_of, name_said, room_said, table_added, table_before, table_said, verb_of}
 use Rattle.smc_script.specs.Scripts.{IsPastLimit, LinesGive}
-use Rattle.smc_script.specs.States.{ReadState, script_of, start}
+use Rattle.smc_script.specs.States.{ReadState, is_open, script_of, start}
 use Rattle.smc_script.specs.Trees.{ScriptTree}
 use Rattle.smc_script.specs.declared.fault.ScriptFault.TheVariants.{Bad}
 use Rattle.smc_script.specs.declared.fault.ScriptKind.{ScriptKind}
-use Rattle.smc_script.specs.declared.fault.ScriptKind.TheVariants.{Grammar, TooLong, TooMany}
+use Rattle.smc_script.specs.declared.fault.ScriptKind.TheVariants.{Grammar, Group, TooLong, TooMany}
 use Rattle.smc_script.specs.Tables.{schema_of}
 use Rattle.smc_script.specs.declared.verb.Verb.{Verb}
 use Rattle.smc_script.specs.declared.verb.Verb.TheVariants as verb
 use Rattle.smc_script.proofs.RowLaws.{no-set, no-value, no-words, value-read}
-use Rattle.smc_script.proofs.SaysLaws.{alone-nothing, behind-says, later, no-cut, no-head, no-verb, some-one, two-alone, two-at}
+use Rattle.smc_script.proofs.ScriptLaws.{ended_by}
+use Rattle.smc_script.proofs.SaysLaws.{alone-says, behind-says, later, no-cut, no-head, no-verb, some-one, two-alone, two-at}
 
 -- it holds, or it doesn't
 abbrev Known : Type 0 → Type 0
@@ -253,7 +254,7 @@ value-known laws (Some kind) text =
     ]
 
 -- what is set, where the head and the value are known
-set-by : Readings → (catalog : Catalog) (names : List Given) (text : List ℕ) (name column value_text : Word) (head : Bool) → words text ≡ name ∷ column ∷ value_text ∷ []
+set-by : Readings → (catalog : Catalog) (names : Naming) (text : List ℕ) (name column value_text : Word) (head : Bool) → words text ≡ name ∷ column ∷ value_text ∷ []
     → is_set name column ≡ head → SaidOrNone (SaysSet catalog names text)
 set-by laws catalog names text name column value_text true is head =
     elim (value-known laws (kind_named catalog names name column) value_text) [
@@ -274,7 +275,7 @@ set-by laws catalog names text name column value_text true is head =
     ]
 set-by laws catalog names text name column value_text false is head = inr (no-set catalog names text name column value_text is head)
 
-set-known : Readings → (catalog : Catalog) (names : List Given) (text : List ℕ) (list : List Word) → words text ≡ list → SaidOrNone (SaysSet catalog names text)
+set-known : Readings → (catalog : Catalog) (names : Naming) (text : List ℕ) (list : List Word) → words text ≡ list → SaidOrNone (SaysSet catalog names text)
 set-known laws catalog names text (name ∷ column ∷ value_text ∷ []) is = set-by laws catalog names text name column value_text (is_set name column) is refl
 set-known laws catalog names text [] is = inr (no-words catalog names text (λ a b c same. let no : a ∷ b ∷ c ∷ [] ≡ [] = sym same ∙ is in absurd cc))
 set-known laws catalog names text (x ∷ []) is = inr (no-words catalog names text (λ a b c same. let no : a ∷ b ∷ c ∷ [] ≡ x ∷ [] = sym same ∙ is in absurd cc))
@@ -290,7 +291,7 @@ query-known text (inr none) = inr (λ said says. none (says.0, says.2))
 -- ---- lines
 
 -- the text behind the word of a command says something, or nothing
-verb-known : Readings → (catalog : Catalog) (names : List Given) (command : Verb) (text : List ℕ) → SaidOrNone (VerbSays catalog names command text)
+verb-known : Readings → (catalog : Catalog) (names : Naming) (command : Verb) (text : List ℕ) → SaidOrNone (VerbSays catalog names command text)
 verb-known laws catalog names verb.Room text = found-known (room_said catalog (words text))
 verb-known laws catalog names verb.Load text = found-known (load_said catalog (words text))
 verb-known laws catalog names verb.Add text =
@@ -309,21 +310,25 @@ verb-known laws catalog names verb.Stat text = found-known (table_said stat cata
 verb-known laws catalog names verb.Drop text = found-known (drop_said (words text))
 
 -- a line says something, or nothing
-abbrev Says : Catalog → List Given → List ℕ → Type 0
+abbrev Says : Catalog → Naming → List ℕ → Type 0
 Says catalog names line = SaidOrNone (LineSays catalog names line)
 
 -- what a line says, by the command that its first word begins
-says-by : Readings → (catalog : Catalog) (names : List Given) (line word text : List ℕ) (found : Option Verb) → words line ≡ word ∷ words text → verb_of word ≡ found → Says catalog names line
-says-by laws catalog names line word text None cut is = inr (no-verb catalog names line word (words text) cut is)
+says-by : Readings → (catalog : Catalog) (names : Naming) (line word text : List ℕ) (found : Option Verb) → words line ≡ word ∷ words text → verb_of word ≡ found → Says catalog names line
+says-by laws catalog names line word text None cut is = inr (no-verb catalog names line word text cut is)
 says-by laws catalog names line word text (Some begins) cut is =
     elim (verb-known laws catalog names begins text) [
-      | inl (said, says) ↦ inl (said, record { word = word; command = begins; text = text; cut = cut; is = is; says = says })
+      | inl (said, says) ↦ inl (said, inr (record { word = word; command = begins; text = text; cut = cut; is = is; says = says }))
       | inr none ↦ inr (λ said says. none said (behind-says catalog names line word text begins said cut is says))
     ]
 
-says-known : Readings → (catalog : Catalog) (names : List Given) (line : List ℕ) → HasBehind line ⊎ IsAlone line → Says catalog names line
+says-known : Readings → (catalog : Catalog) (names : Naming) (line : List ℕ) → HasBehind line ⊎ IsAlone line → Says catalog names line
 says-known laws catalog names line (inl (word, text, is)) = says-by laws catalog names line word text (verb_of word) is refl
-says-known laws catalog names line (inr (word, is)) = inr (alone-nothing catalog names line word is)
+says-known laws catalog names line (inr (word, is)) =
+    elim (found-known (mark_of word)) [
+      | inl (said, says) ↦ inl (said, inl (record { word = word; cut = is; is = says }))
+      | inr none ↦ inr (λ said says. none said (alone-says catalog names line word said is says))
+    ]
 
 -- ---- what lines give
 
@@ -365,8 +370,13 @@ next-some catalog folds state number line lines (Ok next, gives) behind = behind
     behind-some (inl (script, rest)) = inl (script, (Ok next, gives, rest))
     behind-some (inr (at, kind, rest)) = inr (at, kind, (Ok next, gives, rest))
 
+-- the end of lines gives something
+end-some : (catalog : Catalog) (folds : List Word) (state : ReadState) (number : ℕ) (opened : Bool) → is_open state.group ≡ opened → LinesSome catalog folds state number []
+end-some catalog folds state number true is = inr (number + 1, Group, sym (ap (ended_by folds state number) is))
+end-some catalog folds state number false is = inl (script_of folds state, sym (ap (ended_by folds state number) is))
+
 lines-some : Readings → (catalog : Catalog) (folds : List Word) (lines : List (List ℕ)) (state : ReadState) (number : ℕ) → LinesSome catalog folds state number lines
-lines-some laws catalog folds [] state number = inl (script_of folds state, refl)
+lines-some laws catalog folds [] state number = end-some catalog folds state number (is_open state.group) refl
 lines-some laws catalog folds (line ∷ lines) state number =
     next-some catalog folds state number line lines (line-some catalog folds state (number + 1) line (text-known line) (says-known laws catalog state.names line (line-cut line)))
     (λ next. lines-some laws catalog folds lines next (number + 1))

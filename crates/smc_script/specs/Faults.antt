@@ -1,5 +1,5 @@
 -- The kind of refusal of a line, by what stands before it.
-use Rattle.std.specs.Prelude.{◌≡◌, ℕ, Bool, true, false, not, is_some, ◌&&◌, ◌||◌, if◌then◌else◌, List, Option, Some, None, Result, Ok, Err}
+use Rattle.std.specs.Prelude.{◌≡◌, ℕ, Bool, true, false, not, is_some, ◌&&◌, ◌||◌, nat_lt, nat_le, if◌then◌else◌, length, List, Option, Some, None, Result, Ok, Err}
 use Rattle.std.specs.List.{list_all, list_any}
 use Rattle.std.specs.Option.{option_or}
 use Rattle.std.specs.Str.{bytes_eq}
@@ -8,12 +8,14 @@ use Rattle.smc_query.specs.Trees.{Word, ItemTree, CallTree, count, aggregate, fo
 use Rattle.smc_shape.specs.Faults.{fault_of}
 use Rattle.smc_shape.specs.declared.shape.TheConstants.{MAX_PASSES}
 use Rattle.smc_types.specs.declared.catalog.Catalog.{Catalog}
-use Rattle.smc_script.specs.Names.{table_given}
-use Rattle.smc_script.specs.Says.{SaidTree, LineSays, room, load, add, get, remove, set, delete, update, query, compact, stat, drop_fold, kind_named}
-use Rattle.smc_script.specs.States.{ReadState, after, colls_of, room_at, with_room}
+use Rattle.smc_script.specs.Names.{is_taken, table_known}
+use Rattle.smc_script.specs.Says.{SaidTree, LineSays, room, load, add, get, remove, set, delete, update, query, compact, stat, drop_fold, group, worker, end, kind_named}
+use Rattle.smc_script.specs.States.{ReadState, GroupState, outside, begun, working, after, colls_of, room_at, with_room, workers_of}
 use Rattle.smc_script.specs.Tables.{column_kind, may_write, table_named}
+use Rattle.smc_script.specs.Trees.{NumberedTree}
 use Rattle.smc_script.specs.declared.fault.ScriptKind.{ScriptKind}
-use Rattle.smc_script.specs.declared.fault.ScriptKind.TheVariants.{Grammar, Room, Name}
+use Rattle.smc_script.specs.declared.fault.ScriptKind.TheVariants.{TooMany, Grammar, Group, Room, Name}
+use Rattle.smc_script.specs.declared.limits.TheConstants.{MAX_WORKERS}
 use Rattle.smc_script.specs.declared.state.Asked.{Asked}
 use Rattle.smc_script.specs.declared.state.Phase.{Phase}
 use Rattle.smc_script.specs.declared.state.Phase.TheVariants.{Asking, Doing}
@@ -21,6 +23,44 @@ use Rattle.smc_script.specs.declared.state.Phase.TheVariants.{Asking, Doing}
 -- this kind where the test holds
 abbrev pub fault_where : Bool → ScriptKind → Option ScriptKind
 fault_where test kind = if test then Some kind else None
+
+-- a worker is begun behind the last that a group may have
+abbrev pub many_fault : GroupState → SaidTree → Option ScriptKind
+many_fault group' worker = fault_where (nat_le MAX_WORKERS (length (workers_of group'))) TooMany
+many_fault group' said = None
+
+-- whether a call is no fold
+abbrev pub is_plain : CallTree → Bool
+is_plain (fold name of) = false
+is_plain call = true
+
+-- whether no item of a query is a fold
+abbrev pub are_plain : List ItemTree → Bool
+are_plain items = list_all (λ item. is_plain item.call) items
+
+-- whether a worker of a group may do this, or end with it
+abbrev pub is_of_worker : (commands : List NumberedTree) → SaidTree → Bool
+is_of_worker commands (room table slots) = false
+is_of_worker commands (load table file) = false
+is_of_worker commands (drop_fold name) = false
+is_of_worker commands (query tree) = are_plain tree.items
+is_of_worker commands group = false
+is_of_worker commands worker = nat_lt 0 (length commands)
+is_of_worker commands end = nat_lt 0 (length commands)
+is_of_worker commands said = true
+
+-- whether a line that says this may stand where this group is open
+abbrev pub may_stand : GroupState → SaidTree → Bool
+may_stand outside worker = false
+may_stand outside end = false
+may_stand outside said = true
+may_stand begun worker = true
+may_stand begun said = false
+may_stand (working workers commands) said = is_of_worker commands said
+
+-- the kind of a line that may not stand there
+abbrev pub group_fault : GroupState → SaidTree → Option ScriptKind
+group_fault group' said = fault_where (not (may_stand group' said)) Group
 
 -- whether commands have begun
 abbrev pub is_doing : Phase → Bool
@@ -64,16 +104,16 @@ abbrev pub is_placed : List Asked → Option ℕ → Bool
 is_placed rooms None = false
 is_placed rooms (Some table) = has_room rooms table
 
--- whether the name was given to an object of a table with a room
+-- whether the name is known here, as that of an object of a table with a room
 abbrev pub is_given : ReadState → Word → Bool
-is_given state name = is_placed state.rooms (table_given state.names name)
+is_given state name = is_placed state.rooms (table_known state.names name)
 
 -- a command names tables with a room, a name that is new or one that was given, a column that it may write, and folds
 -- that are left
 abbrev pub knows : Catalog → List Word → ReadState → SaidTree → Bool
 knows catalog folds state (room table slots) = true
 knows catalog folds state (load table file) = has_room state.rooms table
-knows catalog folds state (add table name row) = has_room state.rooms table && not (is_some (table_given state.names name))
+knows catalog folds state (add table name row) = has_room state.rooms table && not (is_taken state.names name)
 knows catalog folds state (get name) = is_given state name
 knows catalog folds state (set name column value) = is_given state name && may_write (kind_named catalog state.names name column)
 knows catalog folds state (remove name) = is_given state name
@@ -83,14 +123,22 @@ knows catalog folds state (query tree) = is_placed state.rooms (table_named cata
 knows catalog folds state (compact table) = has_room state.rooms table
 knows catalog folds state (stat table) = has_room state.rooms table
 knows catalog folds state (drop_fold name) = is_left folds state.dropped name
+knows catalog folds state group = true
+knows catalog folds state worker = true
+knows catalog folds state end = true
 
 -- the kind of a line that names what is not known
 abbrev pub name_fault : Catalog → List Word → ReadState → SaidTree → Option ScriptKind
 name_fault catalog folds state said = fault_where (not (knows catalog folds state said)) Name
 
+-- the kind of a line by the rooms, names and folds before it
+abbrev pub known_fault : Catalog → List Word → ReadState → SaidTree → Option ScriptKind
+known_fault catalog folds state said = option_or (room_fault catalog state said) (name_fault catalog folds state said)
+
 -- the kind of a line that says this, in the order in which the kinds are tested
 abbrev pub said_fault : Catalog → List Word → ReadState → SaidTree → Option ScriptKind
-said_fault catalog folds state said = option_or (room_fault catalog state said) (name_fault catalog folds state said)
+said_fault catalog folds state said =
+    option_or (many_fault state.group said) (option_or (group_fault state.group said) (known_fault catalog folds state said))
 
 -- what a line that says this gives: its kind, or what was read with it
 abbrev pub taken : Catalog → ReadState → ℕ → SaidTree → Option ScriptKind → Result ReadState ScriptKind

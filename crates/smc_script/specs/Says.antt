@@ -1,5 +1,5 @@
 -- What a line says, by the names that were given before it and by nothing else that went before.
-use Rattle.std.specs.Prelude.{◌≡◌, ℕ, ◌*◌, ◌≤◌, Bool, true, false, ◌&&◌, nat_lt, nat_le, if◌then◌else◌, List, [], ◌∷◌, length, codes, Option, Some, None}
+use Rattle.std.specs.Prelude.{◌≡◌, ◌⊎◌, ℕ, ◌*◌, ◌≤◌, Bool, true, false, ◌&&◌, nat_lt, nat_le, if◌then◌else◌, List, [], ◌∷◌, length, codes, Option, Some, None}
 use Rattle.std.specs.Int.{div_ceil}
 use Rattle.std.specs.List.{list_all}
 use Rattle.std.specs.Option.{option_map}
@@ -23,7 +23,7 @@ use Rattle.smc_types.specs.declared.column.FieldType.{FieldType}
 use Rattle.smc_types.specs.declared.row.Value.{Value}
 use Rattle.smc_types.specs.declared.schema.Schema.{Schema}
 use Rattle.smc_shape.specs.declared.coll.TheConstants.{BLOCK_SLOTS}
-use Rattle.smc_script.specs.Names.{Given, is_script_name, table_given}
+use Rattle.smc_script.specs.Names.{Naming, is_script_name, table_known}
 use Rattle.smc_script.specs.Tables.{kind_of, schema_of, table_named}
 use Rattle.smc_script.specs.declared.limits.TheConstants.{MAX_FILE, MAX_DIGITS, MAX_SLOTS}
 use Rattle.smc_script.specs.declared.said.Said.{Said}
@@ -44,6 +44,7 @@ pub data SaidTree : Type 0 where
   query : QueryTree → SaidTree
   compact stat : (table : ℕ) → SaidTree
   drop_fold : (name : Word) → SaidTree
+  group worker end : SaidTree
 
 -- the tree of what a line says
 abbrev pub said_tree : Said → SaidTree
@@ -59,6 +60,9 @@ said_tree (of.Query query') = query (query_tree query')
 said_tree (of.Compact table) = compact table
 said_tree (of.Stat table) = stat table
 said_tree (of.DropFold name) = drop_fold name
+said_tree of.Group = group
+said_tree of.Worker = worker
+said_tree of.End = end
 
 -- ---- commands that are words alone
 
@@ -187,11 +191,11 @@ abbrev pub is_set : (name column : Word) → Bool
 is_set name column = is_script_name name && nat_lt 0 (length column)
 
 -- the type of the column of the object with this name
-abbrev pub kind_named : Catalog → List Given → (name column : Word) → Option FieldType
-kind_named catalog names name column = kind_of catalog (table_given names name) column
+abbrev pub kind_named : Catalog → Naming → (name column : Word) → Option FieldType
+kind_named catalog names name column = kind_of catalog (table_known names name) column
 
 -- NAME COLUMN VALUE
-pub record SaysSet (catalog : Catalog) (names : List Given) (text : List ℕ) (said : SaidTree) : Type 0 where
+pub record SaysSet (catalog : Catalog) (names : Naming) (text : List ℕ) (said : SaidTree) : Type 0 where
   pub name : Word
   pub column : Word
   pub value_text : Word
@@ -202,6 +206,20 @@ pub record SaysSet (catalog : Catalog) (names : List Given) (text : List ℕ) (s
   pub says : said ≡ set name column value
 
 -- ---- lines
+
+-- what a word of groups says, which is a line of its own
+abbrev pub mark_of : Word → Option SaidTree
+mark_of word =
+    if bytes_eq word (codes "group") then Some group
+    else if bytes_eq word (codes "worker") then Some worker
+    else if bytes_eq word (codes "end") then Some end
+    else None
+
+-- the line says this: it is a word of groups
+pub record MarkSays (line : List ℕ) (said : SaidTree) : Type 0 where
+  pub word : Word
+  pub cut : words line ≡ word ∷ []
+  pub is : mark_of word ≡ Some said
 
 -- the command that a line begins with
 abbrev pub verb_of : Word → Option Verb
@@ -221,7 +239,7 @@ verb_of word =
     else None
 
 -- the text behind the word of a command says this
-abbrev pub VerbSays : Catalog → List Given → Verb → List ℕ → SaidTree → Type 0
+abbrev pub VerbSays : Catalog → Naming → Verb → List ℕ → SaidTree → Type 0
 VerbSays catalog names verb.Room text said = room_said catalog (words text) ≡ Some said
 VerbSays catalog names verb.Load text said = load_said catalog (words text) ≡ Some said
 VerbSays catalog names verb.Add text said = SaysAdd catalog text said
@@ -236,13 +254,17 @@ VerbSays catalog names verb.Stat text said = table_said stat catalog (words text
 VerbSays catalog names verb.Drop text said = drop_said (words text) ≡ Some said
 
 -- the line says this: the word of a command, a space, and a text that says it
-pub record LineSays (catalog : Catalog) (names : List Given) (line : List ℕ) (said : SaidTree) : Type 0 where
+pub record CommandSays (catalog : Catalog) (names : Naming) (line : List ℕ) (said : SaidTree) : Type 0 where
   pub word : Word
   pub command : Verb
   pub text : List ℕ
   pub cut : words line ≡ word ∷ words text
   pub is : verb_of word ≡ Some command
   pub says : VerbSays catalog names command text said
+
+-- the line says this, as a word of groups or as a command
+abbrev pub LineSays : Catalog → Naming → List ℕ → SaidTree → Type 0
+LineSays catalog names line said = MarkSays line said ⊎ CommandSays catalog names line said
 
 -- ---- answers
 
@@ -252,11 +274,11 @@ IsReadAs holds (Some said) = holds (said_tree said)
 IsReadAs holds None = (said : SaidTree) → ¬ holds said
 
 -- what an answer says of the text behind a word: it says this, or nothing
-abbrev pub IsSaidBy : Catalog → List Given → Verb → List ℕ → Option Said → Type 0
+abbrev pub IsSaidBy : Catalog → Naming → Verb → List ℕ → Option Said → Type 0
 IsSaidBy catalog names command text said = IsReadAs (VerbSays catalog names command text) said
 
 -- what an answer says of the line: it says this, or nothing
-abbrev pub IsSaid : Catalog → List Given → List ℕ → Option Said → Type 0
+abbrev pub IsSaid : Catalog → Naming → List ℕ → Option Said → Type 0
 IsSaid catalog names line said = IsReadAs (LineSays catalog names line) said
 
 -- what an answer says of a text: it is this query, or none

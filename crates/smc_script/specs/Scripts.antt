@@ -1,5 +1,5 @@
 -- What a whole text gives: a script, or its first refused line with the kind.
-use Rattle.std.specs.Prelude.{◌≡◌, ◌⊎◌, ⊤, ℕ, ◌+◌, List, [], ◌∷◌, Result, Ok, Err}
+use Rattle.std.specs.Prelude.{if◌then◌else◌, ◌≡◌, ◌⊎◌, ⊤, ℕ, ◌+◌, List, [], ◌∷◌, Result, Ok, Err}
 use Rattle.smc_lines.specs.Lines.{lines, IsWithin}
 use Rattle.smc_lines.specs.Reading.{PassesLimit}
 use Rattle.smc_lines.specs.declared.fault.LinesFault.{LinesFault}
@@ -8,13 +8,13 @@ use Rattle.smc_lines.specs.declared.limits.TheConstants.{MAX_LINES}
 use Rattle.smc_query.specs.Trees.{Word}
 use Rattle.smc_types.specs.declared.catalog.Catalog.{Catalog}
 use Rattle.smc_script.specs.Faults.{LineGives}
-use Rattle.smc_script.specs.States.{ReadState, reading, script_of, start}
+use Rattle.smc_script.specs.States.{ReadState, is_open, reading, script_of, start}
 use Rattle.smc_script.specs.declared.state.Reader.{Reader}
 use Rattle.smc_script.specs.Trees.{ScriptTree, script_tree}
 use Rattle.smc_script.specs.declared.fault.ScriptFault.{ScriptFault}
 use Rattle.smc_script.specs.declared.fault.ScriptFault.TheVariants.{ReadFault, Bad, NoMemory}
 use Rattle.smc_script.specs.declared.fault.ScriptKind.{ScriptKind}
-use Rattle.smc_script.specs.declared.fault.ScriptKind.TheVariants.{TooLong, TooMany}
+use Rattle.smc_script.specs.declared.fault.ScriptKind.TheVariants.{TooLong, TooMany, Group}
 use Rattle.smc_script.specs.declared.script.Script.{Script}
 
 -- what a text gives: a script, or the number of its first refused line and the kind
@@ -26,9 +26,13 @@ abbrev pub GoesOn : Result ReadState ScriptKind → ℕ → Outcome → (ReadSta
 GoesOn (Ok next) number outcome later = later next
 GoesOn (Err kind) number outcome later = outcome ≡ Err (Bad number kind)
 
+-- what the end of so many lines gives: the script that was read, or where a group is not ended the line after the last
+abbrev pub end_gives : List Word → ReadState → (number : ℕ) → Outcome
+end_gives folds state number = if is_open state.group then Err (Bad (number + 1) Group) else Ok (script_of folds state)
+
 -- what lines give from a state on, where so many lines stand before them
 abbrev pub LinesGive : Catalog → List Word → ReadState → ℕ → List (List ℕ) → Outcome → Type 0
-LinesGive catalog folds state number [] outcome = outcome ≡ Ok (script_of folds state)
+LinesGive catalog folds state number [] outcome = outcome ≡ end_gives folds state number
 LinesGive catalog folds state number (line ∷ later) outcome =
     (given : Result ReadState ScriptKind) × LineGives catalog folds state (number + 1) line given
     × GoesOn given (number + 1) outcome (λ next. LinesGive catalog folds next (number + 1) later outcome)

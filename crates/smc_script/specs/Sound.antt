@@ -1,5 +1,5 @@
 -- What holds of every script that was read.
-use Rattle.std.specs.Prelude.{◌≡◌, ◌⊎◌, ⊤, ℕ, ◌≤◌, true, List, [], map, slice_get, All, Option, None, Some, IfSome}
+use Rattle.std.specs.Prelude.{◌≡◌, ◌⊎◌, ⊤, ℕ, ◌≤◌, true, List, [], map, length, slice_get, All, Option, None, Some, IfSome}
 use Rattle.std.specs.List.{AllByRecursion}
 use Rattle.smc_query.specs.Trees.{Word}
 use Rattle.smc_shape.specs.Faults.{fault_of}
@@ -13,8 +13,10 @@ use Rattle.smc_types.specs.declared.catalog.Catalog.{Catalog}
 use Rattle.smc_types.specs.declared.column.FieldType.{FieldType}
 use Rattle.smc_types.specs.declared.row.Value.{Value}
 use Rattle.smc_types.specs.declared.schema.Schema.{Schema}
+use Rattle.smc_script.specs.Faults.{are_plain}
 use Rattle.smc_script.specs.Tables.{column_kind, is_editable, schema_of, table_width}
-use Rattle.smc_script.specs.Trees.{CommandTree, PartTree, load, add, get, remove, set, delete, update, query, compact, stat, drop_fold, one, group, part_tree}
+use Rattle.smc_script.specs.Trees.{CommandTree, NumberedTree, PartTree, load, add, get, remove, set, delete, update, query, compact, stat, drop_fold, one, group, part_tree}
+use Rattle.smc_script.specs.declared.limits.TheConstants.{MAX_WORKERS}
 use Rattle.smc_script.specs.declared.script.Place.{Place}
 use Rattle.smc_script.specs.declared.script.Room.{Room}
 use Rattle.smc_script.specs.declared.script.Script.{Script}
@@ -60,6 +62,29 @@ EachCommand holds (group workers) = AllByRecursion (AllByRecursion (λ numbered.
 abbrev pub IsPlaced : List Room → PartTree → Type 0
 IsPlaced rooms part = EachCommand (IsPlacedAmong rooms) part
 
+-- a worker of a group may do this
+abbrev pub MayWork : CommandTree → Type 0
+MayWork (load place file) = ⊥
+MayWork (drop_fold name) = ⊥
+MayWork (query place tree) = are_plain tree.items ≡ true
+MayWork command = ⊤
+
+-- the worker has a command
+abbrev pub HasCommand : List NumberedTree → Type 0
+HasCommand commands = 1 ≤ length commands
+
+-- there are one to so many workers, each of them has a command, and may do all of its commands
+pub record IsGroup (workers : List (List NumberedTree)) : Type 0 where
+  pub some : 1 ≤ length workers
+  pub few : length workers ≤ MAX_WORKERS
+  pub busy : AllByRecursion HasCommand workers
+  pub may : AllByRecursion (AllByRecursion (λ numbered. MayWork numbered.command)) workers
+
+-- the part is a command, or such a group
+abbrev pub IsWhole : PartTree → Type 0
+IsWhole (one numbered) = ⊤
+IsWhole (group workers) = IsGroup workers
+
 -- the row is one of the table with this number: a value for each column of its file, within its range or width
 pub record FitsTable (catalog : Catalog) (table : ℕ) (row : List Value) : Type 0 where
   pub schema : Schema
@@ -81,8 +106,9 @@ IsFit catalog (set place name column value) = FitsColumn catalog place.table col
 IsFit catalog command = ⊤
 
 -- the region of a script's rooms opens, where the script has rooms; the place of each command is that of a room, and what
--- it adds or sets fits its table
+-- it adds or sets fits its table; each group has workers that may do their commands
 pub record IsSound (catalog : Catalog) (script : Script) : Type 0 where
   pub opens : Opens (map (coll_of_room catalog) script.rooms)
   pub fits : AllByRecursion (IsPlaced script.rooms) (map part_tree script.parts)
   pub values : AllByRecursion (EachCommand (IsFit catalog)) (map part_tree script.parts)
+  pub groups : AllByRecursion IsWhole (map part_tree script.parts)

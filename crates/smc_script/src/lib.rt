@@ -1,8 +1,8 @@
 //! Scripts: from the bytes of a script to its typed commands, or to the first line that is refused, with the kind of refusal.
 //!
-//! `read` has the call, `state` keeps what was read, `reader` takes one more line, and `said` reads what a line says, by
-//! the word that it begins with (`verb`): `row` the rows and values in it, `query` its texts of the grammar of queries, over
-//! what `cut` cuts off.
+//! `read` has the call, `state` keeps what was read, `reader` takes one more line, `group` what a line does to the group that
+//! is open, and `said` reads what a line says, by the word that it begins with (`verb`): `row` the rows and values in it,
+//! `query` its texts of the grammar of queries, over what `cut` cuts off.
 //! `table` finds the tables and columns that it names, `names` the objects. `script` has a script and its parts, `command`
 //! the commands, `name` the names in them, `fault` says why a script is refused, `limits` how much it may ask for, and
 //! `laws` that each text is exactly one of a script and a first refused line. Below stand `smc_lines`, which reads the
@@ -17,6 +17,7 @@
 mod command;
 mod cut;
 mod fault;
+mod group;
 pub mod laws;
 mod limits;
 mod name;

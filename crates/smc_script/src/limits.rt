@@ -10,5 +10,8 @@ pub const MAX_SLOTS: u32 = 268_435_456;
 /// How many bytes the name of an object has at most.
 pub const MAX_NAME: usize = 16;
 
+/// How many workers a group has at most: one pass of a region is not a worker's.
+pub const MAX_WORKERS: usize = 31;
+
 /// The byte that may stand in a name beside letters and digits.
 pub const UNDERSCORE: u8 = b'_';

@@ -48,7 +48,7 @@ fn read_all(
     loop {
         let next = match cursor.next_line() {
             Ok(Some(next)) => next,
-            Ok(None) => return Ok(reader),
+            Ok(None) => return reader.ended(cursor.line()),
             Err(bad) => {
                 return Err(ScriptFault::Bad {
                     line: bad.line,
@@ -139,6 +139,7 @@ mod tests {
                 b"# x\n\nroom region 1\nload region r.tbl\nstat region\n",
                 None,
             ),
+            (b"room region 268435456\n", Some((1, ScriptKind::Room))),
             (b"room region 268435457\n", Some((1, ScriptKind::Room))),
             (b"room region 0\n", Some((1, ScriptKind::Room))),
             (
@@ -253,6 +254,135 @@ mod tests {
         for (text, fault) in cases {
             let fault = fault.map(|(line, kind)| ScriptFault::Bad { line, kind });
             assert_eq!(rt; refused(rt.alloc(), text)?, fault, "at {text:?}");
+        }
+        Ok(())
+    }
+
+    #[test]
+    fn a_line_of_a_group_has_its_first_kind(rt: HostRuntime) -> Result<(), Fail> {
+        let cases = [
+            // Where groups begin and end.
+            (b"worker\n".as_slice(), Some((1, ScriptKind::Group))),
+            (b"end\n", Some((1, ScriptKind::Group))),
+            (b"worker 1\n", Some((1, ScriptKind::Grammar))),
+            (b"group \n", Some((1, ScriptKind::Grammar))),
+            (b"group\ngroup\n", Some((2, ScriptKind::Group))),
+            (b"group\nend\n", Some((2, ScriptKind::Group))),
+            (b"group\nstat region\n", Some((2, ScriptKind::Group))),
+            (b"group\nworker\ngroup\n", Some((3, ScriptKind::Group))),
+            (b"group\nworker\nend\n", Some((3, ScriptKind::Group))),
+            (b"group\nworker\nworker\n", Some((3, ScriptKind::Group))),
+            (b"group", Some((2, ScriptKind::Group))),
+            (b"group\n\n# x\n", Some((4, ScriptKind::Group))),
+            (
+                b"room region 64\ngroup\nworker\nstat region\n",
+                Some((5, ScriptKind::Group)),
+            ),
+            (
+                b"room region 64\ngroup\nworker\nstat region\nend\nget x\n",
+                Some((6, ScriptKind::Name)),
+            ),
+            (
+                b"room region 64\ngroup\nworker\nstat region\nend\nroom part 64\n",
+                Some((6, ScriptKind::Room)),
+            ),
+            // What a worker may do.
+            (b"group\nroom region 64\n", Some((2, ScriptKind::Group))),
+            (
+                b"group\nworker\nroom region 0\n",
+                Some((3, ScriptKind::Group)),
+            ),
+            (
+                b"group\nworker\nroom region x\n",
+                Some((3, ScriptKind::Grammar)),
+            ),
+            (
+                b"group\nworker\nload region r.tbl\n",
+                Some((3, ScriptKind::Group)),
+            ),
+            (
+                b"group\nworker\ndrop fold median\n",
+                Some((3, ScriptKind::Group)),
+            ),
+            (
+                b"group\nworker\nquery from region show count(), fold mean(regionkey)\n",
+                Some((3, ScriptKind::Group)),
+            ),
+            (b"group\nworker\nstat region\n", Some((3, ScriptKind::Name))),
+            (
+                b"room region 64\ngroup\nworker\nquery from region show count()\nworker\ncompact region\nend\n",
+                None,
+            ),
+            // Which names it knows.
+            (
+                b"room region 64\nadd region x 2|a|c|\ngroup\nworker\nset x regionkey 3\nend\n",
+                None,
+            ),
+            (
+                b"room region 64\ngroup\nworker\nadd region x 2|a|c|\nget x\nworker\nstat region\nend\nget x\ngroup\nworker\nget x\nend\n",
+                None,
+            ),
+            (
+                b"room region 64\ngroup\nworker\nadd region x 2|a|c|\nworker\nget x\n",
+                Some((6, ScriptKind::Name)),
+            ),
+            (
+                b"room region 64\ngroup\nworker\nadd region x 2|a|c|\nworker\nset x regionkey 1.5\n",
+                Some((6, ScriptKind::Name)),
+            ),
+            (
+                b"room region 64\ngroup\nworker\nadd region x 2|a|c|\nworker\nadd region x 2|a|c|\n",
+                Some((6, ScriptKind::Name)),
+            ),
+        ];
+        for (text, fault) in cases {
+            let fault = fault.map(|(line, kind)| ScriptFault::Bad { line, kind });
+            assert_eq!(rt; refused(rt.alloc(), text)?, fault, "at {text:?}");
+        }
+        Ok(())
+    }
+
+    #[test]
+    fn a_text_has_limits(rt: HostRuntime) -> Result<(), Fail> {
+        let group = b"room region 64\ngroup\n".as_slice();
+        let worker = b"worker\nstat region\n".as_slice();
+        let cases = [
+            (b"".as_slice(), b"#".as_slice(), 1024, b"".as_slice(), None),
+            (b"", b"#", 1025, b"", Some((1, ScriptKind::TooLong))),
+            (b"", b"\n", 100_000, b"", None),
+            (
+                b"",
+                b"\n",
+                100_001,
+                b"",
+                Some((100_001, ScriptKind::TooMany)),
+            ),
+            (group, worker, 31, b"end\n", None),
+            (
+                group,
+                worker,
+                31,
+                b"worker\n",
+                Some((65, ScriptKind::TooMany)),
+            ),
+            (
+                group,
+                worker,
+                30,
+                b"worker\nworker\n",
+                Some((64, ScriptKind::TooMany)),
+            ),
+        ];
+        for (front, part, count, end, fault) in cases {
+            let mut text = front.to_vec(rt.alloc())?;
+            text.extend_from_slice(&part.repeat(rt.alloc(), count)?)?;
+            text.extend_from_slice(end)?;
+            let fault = fault.map(|(line, kind)| ScriptFault::Bad { line, kind });
+            assert_eq!(rt;
+                refused(rt.alloc(), &text)?,
+                fault,
+                "at {count} of {part:?}"
+            );
         }
         Ok(())
     }

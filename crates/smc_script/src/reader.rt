@@ -11,7 +11,7 @@ ghost use Rattle.smc_query.specs.Trees.{Word};
 ghost use Rattle.smc_script.specs.Says as says;
 ghost use Rattle.smc_script.specs.Says.{said_tree};
 ghost use Rattle.smc_script.specs.States as state;
-ghost use Rattle.smc_script.specs.Names.{table_given};
+ghost use Rattle.smc_script.specs.Names.{is_taken};
 ghost use Rattle.smc_script.specs.States.{after, colls_of, place_named, place_of, room_at, reading, script_of, start, with_command, with_room};
 ghost use Rattle.smc_script.specs.Says.{kind_named};
 ghost use Rattle.smc_script.specs.Tables as spec;
@@ -23,8 +23,8 @@ use crate::fault::ScriptKind;
 use crate::name::{FoldName, FoldNames, ScriptName};
 use crate::names::Names;
 use crate::said::{Said, read_said};
-use crate::script::{Numbered, Part, Parts, Place, Room, Rooms, Script};
-use crate::state::{Asked, Phase, Reader};
+use crate::script::{Parts, Place, Room, Rooms, Script};
+use crate::state::{Asked, Grouping, Phase, Reader};
 use crate::table::{kind_of, may_write, table_named, table_width};
 use smc_lang::{Item, ItemCall, Query};
 use smc_shape::{CollShape, MAX_PASSES, Shape};
@@ -178,6 +178,7 @@ impl Reader {
             names: Names::new(alloc),
             dropped: Vec::new(alloc),
             parts: Vec::new(alloc),
+            group: Grouping::Outside,
         }
     }
 
@@ -216,9 +217,9 @@ impl Reader {
 
     // Whether the name is new, and the table of its object has a room.
     fn is_new(&self, table: u32, name: &ScriptName) -> bool
-        ensures { result ≡ (fault.has_room self.now.rooms.items table && not (is_some (table_given self.now.names name.now))) }
+        ensures { result ≡ (fault.has_room self.now.rooms.items table && not (is_taken self.now.names name.now)) }
     {
-        has_room(&self.rooms, table) & self.names.table(name.as_str()).is_none()
+        has_room(&self.rooms, table) & !self.names.is_taken(name.as_str())
     }
 
     // Whether the named object was given, and has a column of this name that may be written.
@@ -247,15 +248,15 @@ impl Reader {
         }
     }
 
-    // The kind of a line that says this.
-    fn fault(
+    // The kind of a line by the rooms, names and folds before it.
+    fn known_fault(
         &self,
         alloc: Global,
         catalog: &Catalog,
         folds: &FoldNames,
         said: &Said,
     ) -> Result<Option<ScriptKind>, NoMemory>
-        ensures { IfOk result (λ kind. kind ≡ said_fault catalog.now folds.now (reading self.now) (said_tree said.now)) }
+        ensures { IfOk result (λ kind. kind ≡ fault.known_fault catalog.now folds.now (reading self.now) (said_tree said.now)) }
     {
         match said {
             Said::Room { table, slots } => self.room_fault(alloc, catalog, *table, *slots),
@@ -276,7 +277,24 @@ impl Reader {
             Said::DropFold { name } => {
                 Ok(name_fault(is_left(folds, &self.dropped, name.as_str())))
             }
+            Said::Group | Said::Worker | Said::End => Ok(None),
         }
+    }
+
+    // The kind of a line that says this.
+    fn fault(
+        &self,
+        alloc: Global,
+        catalog: &Catalog,
+        folds: &FoldNames,
+        said: &Said,
+    ) -> Result<Option<ScriptKind>, NoMemory>
+        ensures { IfOk result (λ kind. kind ≡ said_fault catalog.now folds.now (reading self.now) (said_tree said.now)) }
+    {
+        if let Some(kind) = self.group.fault(said) {
+            return Ok(Some(kind));
+        }
+        self.known_fault(alloc, catalog, folds, said)
     }
 
     // Takes a room, of which the rooms stay few.
@@ -287,15 +305,6 @@ impl Reader {
         if let Some(slots) = slots {
             self.rooms = with_room(alloc, &self.rooms, Asked { table, slots })?;
         }
-        Ok(())
-    }
-
-    // Takes a command.
-    fn take_command(&mut self, line: u64, command: Command) -> Result<(), NoMemory>
-        ensures { OnOk result (reading self.new ≡ with_command (reading self.old) line (Some (command_tree command))) }
-    {
-        self.parts.push(Part::One(Numbered { line, command }))?;
-        self.phase = Phase::Doing;
         Ok(())
     }
 
@@ -336,7 +345,7 @@ impl Reader {
     ) -> Result<(), NoMemory>
         ensures { OnOk result ((catalog : _) → reading self.new ≡ after catalog (reading self.old) line (says.add table name row)) }
     {
-        self.names.give(alloc, name.as_str(), table)?;
+        self.names.give(alloc, name.as_str(), table, line)?;
         let place = self.place(table);
         self.take_command(line, Command::Add { place, name, row })
     }
@@ -431,6 +440,12 @@ impl Reader {
                 place: self.place(table),
             },
             Said::DropFold { name } => return self.take_drop(alloc, line, name),
+            Said::Group => {
+                self.take_group(line);
+                return Ok(());
+            }
+            Said::Worker => return self.take_worker(alloc, line),
+            Said::End => return self.take_end(alloc, line),
         };
         self.take_command(line, command)
     }

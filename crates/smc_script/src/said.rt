@@ -75,6 +75,9 @@ pub enum Said {
     DropFold {
         name: FoldName,
     },
+    Group,
+    Worker,
+    End,
 }
 
 // Printable ASCII other than the space.
@@ -274,6 +277,22 @@ fn read_behind(
     }
 }
 
+// What a word of groups says, which is a line of its own.
+fn mark_of(word: &str) -> Option<Said>
+    ensures { option_map said_tree result ≡ spec.mark_of word.now }
+{
+    if word == "group" {
+        return Some(Said::Group);
+    }
+    if word == "worker" {
+        return Some(Said::Worker);
+    }
+    if word == "end" {
+        return Some(Said::End);
+    }
+    None
+}
+
 /// What a line says; `None` where it is no command.
 pub fn read_said(
     alloc: Global,
@@ -285,7 +304,7 @@ pub fn read_said(
 {
     let (word, behind) = split_word(line);
     let Some(text) = behind else {
-        return Ok(None);
+        return Ok(mark_of(word));
     };
     let Some(verb) = verb_of(word) else {
         return Ok(None);

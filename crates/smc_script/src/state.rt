@@ -4,7 +4,7 @@ ghost use Rattle.smc_shape.specs.declared.shape.TheConstants.{MAX_COLLS};
 
 use crate::name::FoldName;
 use crate::names::Names;
-use crate::script::Part;
+use crate::script::{Numbered, Part, WorkerPart};
 
 /// Whether rooms may still be asked for.
 #[derive(Clone, Copy, Debug, PartialEq, Eq)]
@@ -22,6 +22,19 @@ pub struct Asked {
     pub slots: u32,
 }
 
+/// Whether a group is open.
+#[derive(Drop)]
+pub enum Grouping {
+    Outside,
+    /// It has no worker.
+    Begun,
+    /// Workers that are read, and the commands so far of one more.
+    Working {
+        workers: Vec<WorkerPart>,
+        commands: Vec<Numbered>,
+    },
+}
+
 /// What was read of a script. What it shows is the `ReadState` of `reading`.
 #[derive(Drop)]
 pub struct Reader {
@@ -32,5 +45,6 @@ pub struct Reader {
     /// The folds that were dropped.
     pub dropped: Vec<FoldName>,
     pub parts: Vec<Part>,
+    pub group: Grouping,
     ghost few: { length rooms.items ≤ MAX_COLLS },
 }
