@@ -1,6 +1,5 @@
 -- A query that is planned where there are no folds has none.
-use Rattle.std.proofs.Common.{◌≡◌, ℕ, Bool, true, false, cond, List, [], ◌∷◌, Option, Result, Ok, Err, refl, sym, ap, ◌∙◌, subst}
-use Rattle.std.specs.List.{AllByRecursion}
+use Rattle.std.proofs.Common.{◌≡◌, ℕ, Bool, true, false, cond, List, [], ◌∷◌, Result, Ok, Err, refl, sym, ap, subst}
 use Rattle.smc_query.specs.Trees.{Word, PathTree, CondTree, CallTree, ItemTree, KeyTree, QueryTree}
 use Rattle.smc_query.specs.Trees as query
 use Rattle.smc_types.specs.declared.catalog.Catalog.{Catalog}
@@ -9,7 +8,7 @@ use Rattle.smc_plan.specs.Exprs.{typed_expr}
 use Rattle.smc_plan.specs.Items.{aggregated, argument, folded, is_fold, known, planned_call, planned_item}
 use Rattle.smc_plan.specs.Outputs.{OutputTree, aggregate, count}
 use Rattle.smc_plan.specs.Planned.{Planned, placed_paths, planned, planned_filter, planned_items, planned_keys, planned_parts, table_or_fault}
-use Rattle.smc_plan.specs.Planning.{Made, Planning, ◌>>=◌, each, given, made}
+use Rattle.smc_plan.specs.Planning.{Made, ◌>>=◌, given, made}
 use Rattle.smc_plan.specs.Tables.{table_named}
 use Rattle.smc_plan.specs.declared.fault.PlanFault.{PlanFault}
 use Rattle.smc_plan.specs.declared.fault.PlanFault.TheVariants.{NoField}

@@ -1,9 +1,12 @@
-ghost use Rattle.std.specs.Prelude.{◌≡◌, ◌<◌, map, length, All, IfSome, is_some};
+ghost use Rattle.std.specs.Prelude.{◌≡◌, ◌<◌, ◌++◌, [], map, length, All, IfOk, IfSome, OnOk, is_some};
+ghost use Rattle.std.specs.String.{string_bytes};
 ghost use Rattle.smc_folds.specs.Kinds.{answer_by, scaled_by, without_first};
 ghost use Rattle.smc_folds.specs.Places.{place_named};
 ghost use Rattle.smc_folds.specs.Takings.{IsAscending, IsAnswer, IsNumber};
 
 use crate::{Boxed, Fold};
+use smc_words::NoMemory;
+use std::alloc::Global;
 
 /// The boxes that were handed in. The first of equal names counts.
 #[derive(Drop)]
@@ -66,7 +69,38 @@ fn place_of(boxes: &[Boxed], name: &str) -> Option<usize>
     }
 }
 
+// Puts the names of the boxes behind what is there.
+fn push_names(alloc: Global, boxes: &[Boxed], names: &mut Vec<String>) -> Result<(), NoMemory>
+    ensures { OnOk result (map string_bytes names.new.items ≡ map string_bytes names.old.items ++ map (λ kind. kind.name) (map (λ b. kind b.fold) boxes.now)) }
+{
+    match boxes.split_first() {
+        None => Ok(()),
+        Some((first, rest)) => {
+            names.push(first.copied_name(alloc)?)?;
+            push_names(alloc, rest, names)
+        }
+    }
+}
+
 impl Bench {
+    /// No boxes, which takes no memory.
+    pub fn new(alloc: Global) -> Bench
+        ensures { result.boxes.items ≡ [] }
+    {
+        Bench {
+            boxes: Vec::new(alloc),
+        }
+    }
+
+    /// The names of the boxes, in order, each as often as it was handed in.
+    pub fn names(&self, alloc: Global) -> Result<Vec<String>, NoMemory>
+        ensures { IfOk result (λ names. map string_bytes names.items ≡ map (λ kind. kind.name) (map (λ b. kind b.fold) self.now.boxes.items)) }
+    {
+        let mut names = Vec::new(alloc);
+        push_names(alloc, &self.boxes, &mut names)?;
+        Ok(names)
+    }
+
     /// The answer of the first box of that name to these values; `None` exactly where no box has it.
     pub fn use_one(&mut self, name: &str, values: &[i128]) -> Option<Option<i128>>
         requires ascending { IsAscending values.now }
@@ -109,17 +143,20 @@ mod tests {
     #[test]
     fn boxes_are_found_by_name(rt: HostRuntime) -> Result<(), Fail> {
         let alloc = rt.alloc();
-        let mut boxes = Vec::new(alloc);
-        boxes.push(Boxed {
+        let mut bench = Bench::new(alloc);
+        assert!(rt; bench.names(alloc)?.is_empty());
+        bench.boxes.push(Boxed {
             fold: Box::new(alloc, Distinct::new())?,
         })?;
-        boxes.push(Boxed {
+        bench.boxes.push(Boxed {
             fold: Box::new(alloc, Median::new())?,
         })?;
-        boxes.push(Boxed {
+        bench.boxes.push(Boxed {
             fold: Box::new(alloc, Range::new())?,
         })?;
-        let mut bench = Bench { boxes };
+        let names = bench.names(alloc)?;
+        assert_eq!(rt; names.len(), 3);
+        assert_eq!(rt; names[1].as_str(), "median");
         assert_eq!(rt; bench.scaled("distinct"), Some(false));
         assert_eq!(rt; bench.scaled("median"), Some(true));
         assert_eq!(rt; bench.scaled("total"), None);

@@ -1,8 +1,11 @@
-ghost use Rattle.std.specs.Prelude.{◌≡◌, All, IfSome, length};
+ghost use Rattle.std.specs.Prelude.{◌≡◌, All, IfOk, IfSome, length};
+ghost use Rattle.std.specs.String.{string_bytes};
 ghost use Rattle.smc_folds.specs.Kinds.{has_name};
 ghost use Rattle.smc_folds.specs.Takings.{Taking, announced, takes, takes_all, CanTake, CanTakeAll, IsAscending, IsAnswer, IsNumber, IsWhole};
 
 use crate::Fold;
+use smc_words::NoMemory;
+use std::alloc::Global;
 
 /// A box that was handed in.
 #[derive(Drop)]
@@ -52,6 +55,13 @@ impl Boxed {
         ensures { result ≡ has_name name.now (kind self.now.fold) }
     {
         self.fold.name() == name
+    }
+
+    /// Its name, which is copied.
+    pub(crate) fn copied_name(&self, alloc: Global) -> Result<String, NoMemory>
+        ensures { IfOk result (λ name. string_bytes name ≡ (kind self.now.fold).name) }
+    {
+        Ok(String::from_str(alloc, self.fold.name())?)
     }
 
     /// Whether an answer has the scale of the numbers.

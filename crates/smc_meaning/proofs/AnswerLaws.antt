@@ -6,15 +6,13 @@ use Rattle.std.proofs.lemmas.List.Elements.{All-append, All-from_recursion}
 use Rattle.smc_folds.specs.Kinds as folds
 use Rattle.smc_plan.specs.Bounds.{is_number}
 use Rattle.smc_plan.specs.Kinds.{IsOutput, IsPlace, IsPlan}
-use Rattle.smc_plan.specs.Outputs.{OutputTree, count, aggregate, fold as fold_of}
+use Rattle.smc_plan.specs.Outputs.{OutputTree}
 use Rattle.smc_plan.specs.Planned.{Planned}
 use Rattle.smc_plan.specs.Typed as typed
 use Rattle.smc_plan.specs.declared.leaf.Leaf.{Leaf}
-use Rattle.smc_meaning.specs.Answers.{ArePlain, Columns, IsPlain, answer_of, columns_of, group_key}
+use Rattle.smc_meaning.specs.Answers.{Columns, columns_of, group_key}
 use Rattle.smc_meaning.specs.Cells.{CanPrint}
-use Rattle.smc_meaning.specs.Groups.{groups, is_plain, shown, values_at}
-use Rattle.smc_meaning.specs.Kept.{kept_rows}
-use Rattle.smc_meaning.specs.Orders.{ordered}
+use Rattle.smc_meaning.specs.Groups.{shown, values_at}
 use Rattle.smc_meaning.specs.Shown.{IsShowable}
 use Rattle.smc_meaning.proofs.GroupLaws.{typed_leaf}
 use Rattle.smc_meaning.proofs.Printable.{key-prints, shown-prints}
@@ -44,16 +42,16 @@ group_key-prints : (plan : Planned) (rows : List (List ℕ)) → AllByRecursion 
 group_key-prints plan [] = tt
 group_key-prints plan (row ∷ rows) = keys-print plan.leaves plan.by row
 
-items-print : (leaves : List Leaf) (items : List OutputTree) (rows : List (List ℕ)) → AllByRecursion (IsOutput leaves) items → ArePlain items
-    → AllByRecursion CanPrint (map (λ item. shown [] leaves item rows) items)
-items-print leaves [] rows sound plain = tt
-items-print leaves (item ∷ items) rows sound plain = (shown-prints [] leaves item rows sound.0 plain.0, items-print leaves items rows sound.1 plain.1)
+items-print : (kinds : List folds.Kind) (leaves : List Leaf) (items : List OutputTree) (rows : List (List ℕ)) → AllByRecursion (IsOutput leaves) items
+    → AllByRecursion CanPrint (map (λ item. shown kinds leaves item rows) items)
+items-print kinds leaves [] rows sound = tt
+items-print kinds leaves (item ∷ items) rows sound = (shown-prints kinds leaves item rows sound.0, items-print kinds leaves items rows sound.1)
 
-pub columns-print : (plan : Planned) (rows : List (List ℕ)) → IsPlan plan.leaves plan → IsPlain plan → All CanPrint (columns_of plan [] rows)
-columns-print plan rows sound plain =
-    All-append CanPrint (map Some (group_key plan rows)) (map (λ item. shown [] plan.leaves item rows) plan.items)
+pub columns-print : (plan : Planned) (kinds : List folds.Kind) (rows : List (List ℕ)) → IsPlan plan.leaves plan → All CanPrint (columns_of plan kinds rows)
+columns-print plan kinds rows sound =
+    All-append CanPrint (map Some (group_key plan rows)) (map (λ item. shown kinds plan.leaves item rows) plan.items)
     (All-from_recursion CanPrint (map Some (group_key plan rows)) (group_key-prints plan rows))
-    (All-from_recursion CanPrint (map (λ item. shown [] plan.leaves item rows) plan.items) (items-print plan.leaves plan.items rows sound.items plain))
+    (All-from_recursion CanPrint (map (λ item. shown kinds plan.leaves item rows) plan.items) (items-print kinds plan.leaves plan.items rows sound.items))
 
 -- ---- groups, one after another
 
@@ -77,29 +75,3 @@ group-more f g firsts place first so_far longer made found is made_is grown =
     ∙ sym (ap (λ some. map f (map g some)) (take-next firsts place first found)
     ∙ ap (map f) (map-append g (take place firsts) (first ∷ []))
     ∙ map-append f (map g (take place firsts)) (g first ∷ []))
-
--- ---- without folds it is one which folds there are
-
-shown-plain : (kinds : List folds.Kind) (leaves : List Leaf) (item : OutputTree) (rows : List (List ℕ)) → is_plain item ≡ true → shown [] leaves item rows ≡ shown kinds leaves item rows
-shown-plain kinds leaves count rows plain = refl
-shown-plain kinds leaves (aggregate call of) rows plain = refl
-shown-plain kinds leaves (fold_of name of) rows plain = cc
-
-items-plain : (kinds : List folds.Kind) (leaves : List Leaf) (items : List OutputTree) (rows : List (List ℕ)) → ArePlain items
-    → map (λ item. shown [] leaves item rows) items ≡ map (λ item. shown kinds leaves item rows) items
-items-plain kinds leaves [] rows plain = refl
-items-plain kinds leaves (item ∷ items) rows plain =
-    ap (λ first. first ∷ map (λ one. shown [] leaves one rows) items) (shown-plain kinds leaves item rows plain.0)
-    ∙ ap (λ rest. shown kinds leaves item rows ∷ rest) (items-plain kinds leaves items rows plain.1)
-
-columns-plain : (plan : Planned) (kinds : List folds.Kind) (rows : List (List ℕ)) → IsPlain plan → columns_of plan [] rows ≡ columns_of plan kinds rows
-columns-plain plan kinds rows plain = ap (λ rest. map Some (group_key plan rows) ++ rest) (items-plain kinds plan.leaves plan.items rows plain)
-
-groups-plain : (plan : Planned) (kinds : List folds.Kind) (all : List (List (List ℕ))) → IsPlain plan → map (columns_of plan []) all ≡ map (columns_of plan kinds) all
-groups-plain plan kinds [] plain = refl
-groups-plain plan kinds (group ∷ others) plain =
-    ap (λ first. first ∷ map (columns_of plan []) others) (columns-plain plan kinds group plain)
-    ∙ ap (λ rest. columns_of plan kinds group ∷ rest) (groups-plain plan kinds others plain)
-
-pub answer-plain : (plan : Planned) (kinds : List folds.Kind) (rows : List (List ℕ)) → IsPlain plan → answer_of plan [] rows ≡ answer_of plan kinds rows
-answer-plain plan kinds rows plain = ap (ordered plan.sort plan.first) (groups-plain plan kinds (groups plan (kept_rows plan rows)) plain)

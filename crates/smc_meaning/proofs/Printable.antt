@@ -1,5 +1,5 @@
 -- What a plan shows can be printed.
-use Rattle.std.proofs.Common.{◌≡◌, ℕ, ◌≤◌, Bool, true, false, cond, ◌||◌, fold, IsTrue, ℤ, List, [], ◌∷◌, slice_index, slice_get, FitsSigned, Option, None, Some, Ok, refl, subst, arith}
+use Rattle.std.proofs.Common.{◌≡◌, ℕ, ◌≤◌, Bool, true, false, cond, ◌||◌, fold, IsTrue, ℤ, List, [], ◌∷◌, map, slice_index, slice_get, FitsSigned, Option, None, Some, option_map, Ok, refl, subst, arith}
 use Rattle.std.specs.Ordering.{is_lt, is_gt}
 use Rattle.std.specs.Int.{w32}
 use Rattle.std.proofs.lemmas.Int.{ints, clamps}
@@ -25,7 +25,7 @@ use Rattle.smc_plan.specs.declared.kind.TheConstants.{MAX_SCALE}
 use Rattle.smc_plan.specs.declared.leaf.Leaf.{Leaf}
 use Rattle.smc_meaning.specs.Cells.{CanPrint}
 use Rattle.smc_meaning.specs.Comparing.{compare}
-use Rattle.smc_meaning.specs.Groups.{average_of, chosen_of, greater, is_plain, lesser, scale_in, shown, values_of}
+use Rattle.smc_meaning.specs.Groups.{average_of, chosen_of, fold_answer, greater, is_scaled, lesser, scale_in, shown, units_of, values_of}
 use Rattle.smc_meaning.specs.Kinds.{IsOf}
 use Rattle.smc_meaning.specs.Shown.{IsShowable}
 use Rattle.smc_meaning.specs.Values.{Cell, number, day, text, cell_of, leaf_value, leaf_words, value_of}
@@ -132,13 +132,24 @@ fit false of is = cc
 pub showable : (leaves : List Leaf) (of : KindedTree) → IsKinded leaves of → ordered of ≡ Ok of → IsShowable leaves of.typed
 showable leaves of is taken = record { kind = of.kind; kind_is = is; fits = fit (is_number of.kind || is_leaf of.typed) of taken }
 
--- what an output column shows that is no fold
-pub shown-prints : (kinds : List folds.Kind) (leaves : List Leaf) (item : OutputTree) (rows : List (List ℕ)) → IsOutput leaves item → is_plain item ≡ true
+-- an answer has the scale of the numbers, or is whole
+scaled_few : (scaled : Bool) (scale : ℕ) → scale ≤ MAX_SCALE → cond scaled scale 0 ≤ MAX_SCALE
+scaled_few true scale few = few
+scaled_few false scale few = omega arith
+
+answer-prints : (scale : ℕ) (answer : Option ℤ) → scale ≤ MAX_SCALE → CanPrint (option_map (λ units. number units scale) answer)
+answer-prints scale None few = tt
+answer-prints scale (Some units) few = few
+
+-- what an output column shows
+pub shown-prints : (kinds : List folds.Kind) (leaves : List Leaf) (item : OutputTree) (rows : List (List ℕ)) → IsOutput leaves item
     → CanPrint (shown kinds leaves item rows)
-shown-prints kinds leaves count rows is plain = omega arith
-shown-prints kinds leaves (aggregate total of) rows is plain = scale_few of.kind (kind_within leaves of.typed of.kind is.0)
-shown-prints kinds leaves (aggregate average of) rows is plain =
+shown-prints kinds leaves count rows is = omega arith
+shown-prints kinds leaves (aggregate total of) rows is = scale_few of.kind (kind_within leaves of.typed of.kind is.0)
+shown-prints kinds leaves (aggregate average of) rows is =
     average-prints (scale_in of.kind) (values_of leaves of.typed rows) (scale_few of.kind (kind_within leaves of.typed of.kind is.0))
-shown-prints kinds leaves (aggregate least of) rows is plain = chosen-prints lesser leaves of.typed rows lesser-chooses (showable leaves of is.0 is.1)
-shown-prints kinds leaves (aggregate greatest of) rows is plain = chosen-prints greater leaves of.typed rows greater-chooses (showable leaves of is.0 is.1)
-shown-prints kinds leaves (fold_of name of) rows is plain = cc
+shown-prints kinds leaves (aggregate least of) rows is = chosen-prints lesser leaves of.typed rows lesser-chooses (showable leaves of is.0 is.1)
+shown-prints kinds leaves (aggregate greatest of) rows is = chosen-prints greater leaves of.typed rows greater-chooses (showable leaves of is.0 is.1)
+shown-prints kinds leaves (fold_of name of) rows is =
+    answer-prints (cond (is_scaled kinds name) (scale_in of.kind) 0) (fold_answer kinds name (map units_of (values_of leaves of.typed rows)))
+    (scaled_few (is_scaled kinds name) (scale_in of.kind) (scale_few of.kind (kind_within leaves of.typed of.kind is.0)))

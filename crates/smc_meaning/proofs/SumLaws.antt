@@ -1,8 +1,11 @@
 -- Sums of the rows of a group.
-use Rattle.std.proofs.Common.{◌≡◌, ℕ, suc, ◌+◌, ◌^◌, ◌<◌, ◌≤◌, to_z, of_z, ◌-ℤ◌, ℤ, pos, negsuc, ◌+ℤ◌, ◌<ℤ◌, ◌≤ℤ◌, neg_ℤ, unsigned_abs, List, [], ◌∷◌, ◌++◌, fold, take, Some, slice_get, refl, sym, ap, ◌∙◌, length, max, mul-le-mul, ◌*ℤ◌, ◌-◌, arith}
+use Rattle.std.proofs.Common.{◌≡◌, ℕ, suc, ◌+◌, ◌^◌, ◌<◌, ◌≤◌, to_z, of_z, ◌-ℤ◌, ℤ, pos, negsuc, ◌+ℤ◌, ◌<ℤ◌, ◌≤ℤ◌, neg_ℤ, unsigned_abs, All, List, [], ◌∷◌, ◌++◌, map, fold, take, Some, slice_get, refl, sym, ap, ◌∙◌, length, max, mul-le-mul, ◌*ℤ◌, ◌-◌, arith}
 use Rattle.std.specs.Int.{w128}
 use Rattle.std.proofs.lemmas.Int.{ints, unsigned_abs-mul}
+use Rattle.std.proofs.lemmas.List.{map-append}
+use Rattle.std.proofs.lemmas.List.Elements.{All-append, All-from_recursion, All-same}
 use Rattle.std.proofs.Math.Nat.{pow-le-pow_right}
+use Rattle.smc_folds.specs.Takings.{IsNumber as CanBeTaken}
 use Rattle.smc_plan.specs.Typed.{TypedTree}
 use Rattle.smc_plan.specs.declared.kind.TheConstants.{HUNDREDTHS, SIZE_LIMIT, SUM_LIMIT}
 use Rattle.smc_plan.specs.declared.leaf.Leaf.{Leaf}
@@ -38,6 +41,22 @@ sum-next leaves of rows place row so_far decimal found is value =
     sym (ap sum_of (values_of-next leaves of rows place row found)
     ∙ sum_from-append (pos 0) (values_of leaves of (take place rows)) (value_of leaves of row)
     ∙ rw (value, ← is) refl)
+
+-- the units of rows, with those of one more
+pub units-next : (leaves : List Leaf) (of : TypedTree) (rows : List (List ℕ)) (place : ℕ) (row : List ℕ) (so_far longer : List ℤ) (decimal : Decimal)
+    → slice_get rows place ≡ Some row → so_far ≡ map units_of (values_of leaves of (take place rows)) → value_of leaves of row ≡ decimal_cell decimal
+    → longer ≡ so_far ++ decimal.units ∷ [] → longer ≡ map units_of (values_of leaves of (take (place + 1) rows))
+units-next leaves of rows place row so_far longer decimal found is value grown =
+    grown
+    ∙ ap (λ front. front ++ decimal.units ∷ []) is
+    ∙ sym (ap (map units_of) (values_of-next leaves of rows place row found)
+    ∙ map-append units_of (values_of leaves of (take place rows)) (value_of leaves of row ∷ [])
+    ∙ ap (λ cell. map units_of (values_of leaves of (take place rows)) ++ units_of cell ∷ []) value)
+
+-- numbers that a fold may be given, with one more
+pub few-more : (so_far longer : List ℤ) (units : ℤ) → All CanBeTaken so_far → unsigned_abs units < SIZE_LIMIT → longer ≡ so_far ++ units ∷ [] → All CanBeTaken longer
+few-more so_far longer units few small grown =
+    All-same CanBeTaken longer (so_far ++ units ∷ []) grown (All-append CanBeTaken so_far (units ∷ []) few (All-from_recursion CanBeTaken (units ∷ []) (small, tt)))
 
 -- a number of which a sum is taken has few units
 pub summable_units : (leaves : List Leaf) (of : TypedTree) (words : List ℕ) (decimal : Decimal) → IsSummable leaves of → value_of leaves of words ≡ decimal_cell decimal

@@ -3,12 +3,13 @@
 //! A row is the words of all leaves of a plan, one leaf behind the other; `rows` keeps many of them, and `leaf` finds a leaf in
 //! one. `value` gives the value of an expression in a row, `decimal` has its numbers and `text` its texts; `comparing` compares
 //! values, `filter` says whether a plan keeps a row, and `group` finds the rows that are kept and those of each group. `summing`
-//! has sums and averages, `extremes` the least and the greatest, `output` what a column shows of a group, as `shown` has it, and
-//! `laws` the theorems over the definitions. Below stand `smc_plan` with plans and `smc_types` with columns; above, the crates
-//! that answer queries fast, whose answers are those of the definitions here.
+//! has sums and averages, `extremes` the least and the greatest, `folding` the answers of folds, `output` what a column shows of a
+//! group, as `shown` has it, and `laws` the theorems over the definitions. Below stand `smc_plan` with plans, `smc_types` with
+//! columns and `smc_folds` with the boxes of folds; above, the crates that answer queries fast, whose answers are those of the
+//! definitions here.
 //!
 //! `cell` has the columns of an answer, `answer` its rows and its text, and `order` the order of rows. `answering` is the
-//! evaluator, made of all these: `slow` gives the answer of each plan that has no fold, and `is_plain` says which have none.
+//! evaluator, made of all these: `slow` gives the answer of each plan, where the folds are the boxes of a bench.
 //! `editing` says what an edit does with a row.
 //!
 //! The value of an expression is defined in `specs/Values.antt`, how values compare in `Comparing.antt`, the rows that are kept in
@@ -25,6 +26,7 @@ mod decimal;
 mod editing;
 mod extremes;
 mod filter;
+mod folding;
 mod group;
 pub mod laws;
 mod leaf;

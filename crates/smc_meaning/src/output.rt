@@ -1,6 +1,5 @@
 //! What an output column shows of a group, and whether a plan has folds.
-ghost use Rattle.std.specs.Prelude.{◌≡◌, ◌≤◌, ◌↔◌, true, IsTrue, List, IfOk, length};
-ghost use Rattle.smc_folds.specs.Kinds.{Kind};
+ghost use Rattle.std.specs.Prelude.{◌≡◌, ◌≤◌, ◌↔◌, IsTrue, IfOk, length, map};
 ghost use Rattle.smc_plan.specs.Kinds.{IsOutput};
 ghost use Rattle.smc_plan.specs.Leaves.{leaves_words};
 ghost use Rattle.smc_plan.specs.Outputs.{output_tree};
@@ -11,8 +10,10 @@ ghost use Rattle.smc_meaning.specs.Cells.{column_seen};
 ghost use Rattle.smc_meaning.specs.declared.rows.TheConstants.{ROWS_MAX};
 
 use crate::extremes::end_shown;
+use crate::folding::fold_shown;
 use crate::summing::{average_shown, sum_shown};
 use crate::{Cell, Decimal, End, Rows};
+use smc_folds::{Bench, Fold};
 use smc_plan::{Leaf, Output, Plan};
 use smc_words::NoMemory;
 use std::alloc::Global;
@@ -41,18 +42,21 @@ pub fn is_plain(plan: &Plan) -> bool
     are_plain(plan.items.as_slice())
 }
 
-/// What an output column that is no fold shows of a group, whatever folds there are.
+/// What an output column shows of a group.
 pub(crate) fn output_shown(
     alloc: Global,
     leaves: &[Leaf],
     output: &Output,
+    bench: &mut Bench,
     rows: &Rows,
 ) -> Result<Option<Cell>, NoMemory>
     requires words { rows.now.width ≡ leaves_words leaves.now }
     requires count { length rows.now.rows ≤ ROWS_MAX }
     requires output { IsOutput leaves.now (output_tree output.now) }
-    requires plain { is_plain (output_tree output.now) ≡ true }
-    ensures { (kinds : List Kind) → IfOk result (λ made. column_seen made ≡ shown kinds leaves.now (output_tree output.now) rows.now.rows) }
+    ensures shown { IfOk result (λ made. column_seen made
+        ≡ shown (map (λ b. (⟦<dyn Fold as Fold>⟧ b.fold.vtable).kind b.fold.value) bench.old.boxes.items) leaves.now (output_tree output.now) rows.now.rows) }
+    ensures kept { map (λ b. (⟦<dyn Fold as Fold>⟧ b.fold.vtable).kind b.fold.value) bench.new.boxes.items
+        ≡ map (λ b. (⟦<dyn Fold as Fold>⟧ b.fold.vtable).kind b.fold.value) bench.old.boxes.items }
 {
     match output {
         Output::Count => Ok(Some(Cell::Number(Decimal {
@@ -63,6 +67,6 @@ pub(crate) fn output_shown(
         Output::Avg(of) => Ok(average_shown(leaves, of, rows)),
         Output::Min(of) => end_shown(alloc, leaves, &of.typed, End::Least, rows),
         Output::Max(of) => end_shown(alloc, leaves, &of.typed, End::Greatest, rows),
-        Output::Fold { .. } => unreachable!(),
+        Output::Fold { name, of } => fold_shown(alloc, leaves, name.as_str(), of, bench, rows),
     }
 }

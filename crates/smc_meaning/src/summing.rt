@@ -59,8 +59,8 @@ pub(crate) fn divided(units: i128, parts: usize) -> i128
     if units < 0 { -size } else { size }
 }
 
-// How many decimals a number has.
-fn scale_in(kind: Kind) -> u32
+/// How many decimals a number has.
+pub(crate) fn scale_in(kind: Kind) -> u32
     ensures { result ≡ scale_in kind }
 {
     match kind {
