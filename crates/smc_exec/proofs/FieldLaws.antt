@@ -1,12 +1,12 @@
 -- The field that an edit writes stands within its record.
-use Rattle.std.proofs.Common.{◌≡◌, ℕ, ◌+◌, ◌<◌, ◌≤◌, false, [], ◌∷◌, Option, Ok, refl, ap, ◌∙◌, subst, arith}
+use Rattle.std.proofs.Common.{◌≡◌, ℕ, ◌+◌, ◌<◌, ◌≤◌, false, [], ◌∷◌, Option, Some, None, Ok, refl, ap, ◌∙◌, subst, arith}
 use Rattle.smc_query.specs.Trees.{CondTree, ExprTree, Word}
 use Rattle.smc_types.specs.Columns.{is_reference, width_of}
 use Rattle.smc_types.specs.declared.catalog.Catalog.{Catalog}
 use Rattle.smc_types.specs.declared.column.FieldType.{FieldType}
 use Rattle.smc_types.specs.declared.column.FieldType.TheVariants.{Count, Amount, Rate, Day, Text, RefTo}
 use Rattle.smc_plan.specs.Answers.{and_then}
-use Rattle.smc_plan.specs.Edits.{PlannedEdit, editable, edited_field, edited_parts, written}
+use Rattle.smc_plan.specs.Edits.{PlannedEdit, editable, edited_field, edited_parts, planned_edit, written}
 use Rattle.smc_plan.specs.Exprs.{typed_expr}
 use Rattle.smc_plan.specs.Leaves.{leaf_at, leaf_of}
 use Rattle.smc_plan.specs.Planned.{planned_filter, table_or_fault, with_leaves}
