@@ -125,6 +125,7 @@ same-census coll one other is =
   where
     surveyed-objects : (coll a b c d : ℕ) → done.Surveyed coll a b ≡ done.Surveyed coll c d → a ≡ c
     surveyed-objects coll a b c d is = cc
+
     surveyed-blocks : (coll a b c d : ℕ) → done.Surveyed coll a b ≡ done.Surveyed coll c d → b ≡ d
     surveyed-blocks coll a b c d is = cc
 
@@ -137,9 +138,8 @@ packs-front coll turns one other s t rest behind a b same =
     let drive = drives-front coll turns one.outcome other.outcome a.driven b.driven (mine ++ rest) (theirs ++ behind) a.drives b.drives
     (both s a.driven mine rest t b.driven theirs behind a.made b.made same) in
     let section = section-one a.epoch b.epoch (survey-of coll one.census) (survey-of coll other.census) rest behind drive.1 in
-    let census : one.census ≡ other.census = same-census coll one.census other.census section.1 in
-    (
+    let census : one.census ≡ other.census = same-census coll one.census other.census section.1 in (
       ap (λ (k : Outcome). let p : Packed = record { outcome = k; census = one.census } in p) drive.0
-      ∙ ap (λ (k : Census). let p : Packed = record { outcome = other.outcome; census = k } in p) census,
+          ∙ ap (λ (k : Census). let p : Packed = record { outcome = other.outcome; census = k } in p) census,
       section.2,
     )

@@ -1,11 +1,13 @@
 //! The reply to a command.
 ghost use Rattle.std.specs.Prelude.{◌≡◌, IfOk, codes, length, string_bytes};
 ghost use Rattle.smc_types.specs.Columns.{columns_width};
+ghost use Rattle.smc_replies.specs.Edits.{deleted_line, updated_line};
 ghost use Rattle.smc_replies.specs.Loads.{loaded_line};
 ghost use Rattle.smc_replies.specs.Objects.{PrintsObject, add_line, found_line, null_line};
 ghost use Rattle.smc_replies.specs.Commands.{count_row, objects_line, packed_line, packed_reply};
 
 use smc_compact::{Census, Outcome, Packed};
+use smc_exec::Updated;
 use smc_tbl::print_row;
 use smc_types::{Schema, decode};
 use smc_words::{NoMemory, Number};
@@ -84,6 +86,21 @@ pub(crate) fn loaded_reply(alloc: Global, table: &str, count: u64) -> Result<Rep
     ensures { IfOk result (λ reply. reply ≡ loaded_line table.now count) }
 {
     Ok(Reply::of(format!(in alloc; "loaded {table} {count}\n")?))
+}
+
+/// The reply to a delete: how many objects it removed first.
+pub(crate) fn deleted_line(alloc: Global, removed: u64) -> Result<Reply, NoMemory>
+    ensures { IfOk result (λ reply. reply ≡ deleted_line removed) }
+{
+    Ok(Reply::of(format!(in alloc; "deleted {removed}\n")?))
+}
+
+/// The reply to an update: how many objects it wrote, and how many it passed over.
+pub(crate) fn updated_line(alloc: Global, updated: Updated) -> Result<Reply, NoMemory>
+    ensures { IfOk result (λ reply. reply ≡ updated_line updated) }
+{
+    let Updated { written, skipped } = updated;
+    Ok(Reply::of(format!(in alloc; "updated {written} skipped {skipped}\n")?))
 }
 
 /// The reply where a name has no object, or where its object is not found.

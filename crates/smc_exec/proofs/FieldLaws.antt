@@ -1,12 +1,12 @@
 -- The field that an edit writes stands within its record.
-use Rattle.std.proofs.Common.{◌≡◌, ℕ, ◌+◌, ◌<◌, ◌≤◌, false, [], ◌∷◌, Option, Ok, refl, ap, ◌∙◌, subst, arith}
+use Rattle.std.proofs.Common.{◌≡◌, ℕ, ◌+◌, ◌<◌, ◌≤◌, false, [], ◌∷◌, Option, Some, None, Ok, refl, ap, ◌∙◌, subst, arith}
 use Rattle.smc_query.specs.Trees.{CondTree, ExprTree, Word}
 use Rattle.smc_types.specs.Columns.{is_reference, width_of}
 use Rattle.smc_types.specs.declared.catalog.Catalog.{Catalog}
 use Rattle.smc_types.specs.declared.column.FieldType.{FieldType}
 use Rattle.smc_types.specs.declared.column.FieldType.TheVariants.{Count, Amount, Rate, Day, Text, RefTo}
 use Rattle.smc_plan.specs.Answers.{and_then}
-use Rattle.smc_plan.specs.Edits.{PlannedEdit, editable, edited_field, edited_parts, written}
+use Rattle.smc_plan.specs.Edits.{PlannedEdit, editable, edited_field, edited_parts, planned_edit, written}
 use Rattle.smc_plan.specs.Exprs.{typed_expr}
 use Rattle.smc_plan.specs.Leaves.{leaf_at, leaf_of}
 use Rattle.smc_plan.specs.Planned.{planned_filter, table_or_fault, with_leaves}
@@ -57,6 +57,25 @@ field-is catalog field one cond all is =
     let plan : PlannedEdit = record { leaves = third.0.leaves; field = field; value = second.0.part; filter = third.0.part } in
     let same : made third.0.leaves plan ≡ all = cc in
     ap (λ (made' : Made PlannedEdit). made'.part.field) same
+
+-- a table that was found has its number
+table-is : (found : Option ℕ) (table : ℕ) → table_or_fault found ≡ Ok table → found ≡ Some table
+table-is None table is = absurd cc
+table-is (Some found) table is = cc
+
+-- it is the field of that name of the table
+pub field-named : (catalog : Catalog) (table name : Word) (value : ExprTree) (cond : Option CondTree) (plan : PlannedEdit) → planned_edit catalog table name value cond ≡ Ok plan
+    → (number : ℕ) × (table_named catalog table ≡ Some number) × (field_named catalog number name ≡ Ok plan.field)
+field-named catalog table name one cond plan is =
+    let first = and_then-Ok (table_or_fault (table_named catalog table))
+    (λ number. and_then (edited_field catalog number name) (λ field. and_then (edited_parts catalog field one cond []) (λ all. Ok all.part))) plan is in
+    let second = and_then-Ok (edited_field catalog first.0 name) (λ field. and_then (edited_parts catalog field one cond []) (λ all. Ok all.part)) plan first.2 in
+    let third = and_then-Ok (edited_parts catalog second.0 one cond []) (λ all. Ok all.part) plan second.2 in
+    let same : third.0.part ≡ plan = cc in
+    let field : second.0 ≡ plan.field = field-is catalog second.0 one cond third.0 third.1 ∙ ap (λ (made' : PlannedEdit). made'.field) same in
+    let found = and_then-Ok (field_named catalog first.0 name) (λ one. editable one.kind one) second.0 second.1 in
+    let may = editable-is found.0.kind found.0 second.0 found.2 in
+    (first.0, table-is (table_named catalog table) first.0 first.1, found.1 ∙ ap (λ (f : Field). Ok f) (may.same ∙ field))
 
 pub field-within : (plan : PlannedEdit) → IsPlannedEdit plan → plan.field.at < plan.field.width
 field-within plan of =

@@ -12,6 +12,7 @@ pub mod Items
 pub mod Orders
 pub mod Planned
 pub mod Edits
+pub mod Deletes
 pub mod Kinds
 pub mod Laws
 pub mod Worked

@@ -3,4 +3,5 @@ pub mod Fronts
 pub mod PackFronts
 pub mod ObjectFronts
 pub mod LoadFronts
+pub mod EditFronts
 pub mod PartLaws

@@ -35,7 +35,7 @@ pub given : (s t first other rest behind : List CallEnd) → first ≡ s → oth
 given s t first other rest behind a b same = sym (ap (λ (x : List CallEnd). x ++ rest) a) ∙ same ∙ ap (λ (x : List CallEnd). x ++ behind) b
 
 -- what stands behind the enter of two sections
-inner-front : {P Q : List CallEnd → Type 0} (first other rest behind : List CallEnd) (one : InSection P first) (two : InSection Q other) → first ++ rest ≡ other ++ behind
+pub inner-front : {P Q : List CallEnd → Type 0} (first other rest behind : List CallEnd) (one : InSection P first) (two : InSection Q other) → first ++ rest ≡ other ++ behind
     → one.inner ++ (leaves ++ rest) ≡ two.inner ++ (leaves ++ behind)
 inner-front first other rest behind one two same =
     let flat = given (enters one.epoch ++ (one.inner ++ leaves)) (enters two.epoch ++ (two.inner ++ leaves)) first other rest behind one.made two.made same in

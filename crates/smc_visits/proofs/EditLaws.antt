@@ -20,7 +20,8 @@ use Rattle.smc_visits.proofs.VisitLaws.{SoFar, visits-all, visits-more}
 
 -- ---- counts
 
-same-counts : (a b c a' b' c' : ℕ) → a ≡ a' → b ≡ b' → c ≡ c'
+-- the counts are the same where each is
+pub same-counts : (a b c a' b' c' : ℕ) → a ≡ a' → b ≡ b' → c ≡ c'
     → (let x : Edits = record { removed = a; written = b; skipped = c } in x) ≡ (let x : Edits = record { removed = a'; written = b'; skipped = c' } in x)
 same-counts a b c a' b' c' is is' is'' =
     ap (λ (k : ℕ). let x : Edits = record { removed = k; written = b; skipped = c } in x) is

@@ -4,3 +4,5 @@ pub mod EditLaws
 pub mod StillLaws
 pub mod FitLaws
 pub mod TakenLaws
+pub mod FrontLaws
+pub mod EditFronts
