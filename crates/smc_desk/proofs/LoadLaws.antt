@@ -10,16 +10,16 @@ use Rattle.smc_load.specs.Files.{LoadsFile, Told}
 use Rattle.smc_load.specs.Loading.{Entries}
 use Rattle.smc_load.specs.declared.fault.LoadFault.{LoadFault}
 use Rattle.smc_load.specs.declared.fault.LoadFault.TheVariants as fault
-use Rattle.smc_replies.specs.Books.{Books}
+use Rattle.smc_replies.specs.Books.{Books, KnowsSame}
 use Rattle.smc_replies.specs.Loads.{LoadsBy, loaded_line}
 use Rattle.smc_desk.specs.Runs.{LoadStops}
 
 -- all of it was
 pub load-done : (by : Option Schema) (schema : Schema) (files : Told) (place : Place) (file : Word) (known now : Books) (old new : Caller) (count : ℕ) (text : List ℕ) → by ≡ Some schema
-    → now.names ≡ known.names → DoesSome old new (LoadsFile (Ok count) files file schema place.table place.coll known.keys now.keys) → text ≡ loaded_line schema.name count
+    → KnowsSame now known → DoesSome old new (LoadsFile (Ok count) files file schema place.table place.coll known.keys now.keys) → text ≡ loaded_line schema.name count
     → DoesSome old new (λ calls. LoadsBy by files place file known now calls text)
-load-done by schema files place file known now old new count text is names done says =
-    (done.0, done.1, subst (λ (s : Option Schema). LoadsBy s files place file known now done.0 text) (sym is) (record { count = count; loads = done.2; names = names; reply = says }))
+load-done by schema files place file known now old new count text is same done says =
+    (done.0, done.1, subst (λ (s : Option Schema). LoadsBy s files place file known now done.0 text) (sym is) (record { count = count; loads = done.2; same = same; reply = says }))
 
 -- it stopped at a fault
 pub load-stops : (by : Option Schema) (schema : Schema) (why : LoadFault) (files : Told) (place : Place) (file : Word) (known : Books) (keys : Entries) (old new : Caller) → by ≡ Some schema

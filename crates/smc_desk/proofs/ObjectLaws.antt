@@ -38,30 +38,30 @@ module _ {E : Type 0} where
 
   pub adds-done : (by : Option Schema) (schema : Schema) (place : Place) (name : Word) (values : List Value) (words : List ℕ) (known now : Books) (old new : Caller) (number : Number) (reply : Result (List ℕ) E)
       → by ≡ Some schema → words ≡ words_of schema values → RowEnds (Ok number) schema place.table place.coll known.keys now.keys words old new
-      → OnOk reply (now.names ≡ with_name name (Some number) known.names) → IfOk reply (λ text. text ≡ add_line (Some number) name)
+      → OnOk reply (now.names ≡ with_name name (Some number) known.names) → now.folds ≡ known.folds → IfOk reply (λ text. text ≡ add_line (Some number) name)
       → IfOk reply (λ text. DoesSome old new (λ calls. AddsBy by place name values known now calls text))
-  adds-done by schema place name values words known now old new number (Ok text) is are ends names says =
+  adds-done by schema place name values words known now old new number (Ok text) is are ends names folds says =
       let done = subst (λ (w : List ℕ). RowEnds (Ok number) schema place.table place.coll known.keys now.keys w old new) are ends in
       let same = ap (λ (n : Number). with_name name (Some n) known.names) (sym done.2.1) in (
         done.0,
         done.1,
         subst (λ (s : Option Schema). AddsBy s place name values known now done.0 text) (sym is)
-            (inl (record { loads = done.2.0; names = names ∙ same; reply = says })),
+            (inl (record { loads = done.2.0; names = names ∙ same; folds = folds; reply = says })),
       )
-  adds-done by schema place name values words known now old new number (Err fault) is are ends names says = tt
+  adds-done by schema place name values words known now old new number (Err fault) is are ends names folds says = tt
 
   pub adds-full : (by : Option Schema) (schema : Schema) (place : Place) (name : Word) (values : List Value) (words : List ℕ) (known now : Books) (old new : Caller) (reply : Result (List ℕ) E)
       → by ≡ Some schema → words ≡ words_of schema values → RowEnds (Err row.Full) schema place.table place.coll known.keys now.keys words old new
-      → OnOk reply (now.names ≡ with_name name None known.names) → IfOk reply (λ text. text ≡ add_line None name)
+      → OnOk reply (now.names ≡ with_name name None known.names) → now.folds ≡ known.folds → IfOk reply (λ text. text ≡ add_line None name)
       → IfOk reply (λ text. DoesSome old new (λ calls. AddsBy by place name values known now calls text))
-  adds-full by schema place name values words known now old new (Ok text) is are ends names says =
+  adds-full by schema place name values words known now old new (Ok text) is are ends names folds says =
       let done = subst (λ (w : List ℕ). RowEnds (Err row.Full) schema place.table place.coll known.keys now.keys w old new) are ends in (
         done.1.0,
         done.1.1,
         subst (λ (s : Option Schema). AddsBy s place name values known now done.1.0 text) (sym is)
-            (inr (record { refuses = done.1.2; keys = done.0; names = names; reply = says })),
+            (inr (record { refuses = done.1.2; keys = done.0; names = names; folds = folds; reply = says })),
       )
-  adds-full by schema place name values words known now old new (Err fault) is are ends names says = tt
+  adds-full by schema place name values words known now old new (Err fault) is are ends names folds says = tt
 
   -- ---- get, set, remove
 

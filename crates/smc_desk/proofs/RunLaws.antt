@@ -1,5 +1,5 @@
 -- Parts that are run one behind another, and what was written of their replies.
-use Rattle.std.proofs.Common.{◌≡◌, ◌⊎◌, ℕ, true, false, zero, suc, ◌+◌, ◌<◌, List, [], ◌∷◌, ◌++◌, Option, None, length, map, take, drop, get_or, inl, inr, refl, sym, subst, ap, ◌∙◌, append_assoc, take-append-drop, arith}
+use Rattle.std.proofs.Common.{◌≡◌, ◌⊎◌, ℕ, true, false, zero, suc, ◌+◌, ◌<◌, ◌≤◌, List, [], ◌∷◌, ◌++◌, Option, None, length, map, take, drop, get_or, inl, inr, refl, sym, subst, ap, ◌∙◌, append_assoc, take-append-drop, arith}
 use Rattle.std.specs.List.{AllByRecursion}
 use Rattle.std.specs.Io.KnownBytes.{Appends, Keeps}
 use Rattle.std.proofs.KnownBytes.{Appends-kept, Appends-nil, Appends-trans, Keeps-refl}
@@ -13,17 +13,18 @@ use Rattle.smc_does.specs.Does.{DoesSome}
 use Rattle.smc_does.proofs.DoesLaws.{does-then}
 use Rattle.smc_script.specs.declared.script.Part.{Part}
 use Rattle.smc_script.specs.declared.script.Room.{Room}
+use Rattle.smc_folds.specs.Kinds.{Kind}
 use Rattle.smc_query.specs.Trees.{Word}
 use Rattle.smc_types.specs.Tables.{the_tables}
 use Rattle.smc_script.specs.declared.command.Command.{Command}
 use Rattle.smc_script.specs.declared.command.Command.TheVariants as of
 use Rattle.smc_script.specs.declared.script.Place.{Place}
 use Rattle.smc_script.specs.Tables.{schema_of}
-use Rattle.smc_script.specs.Trees.{CommandTree, PartTree, add, command_tree, compact, get, load, one, group, part_tree, query, remove, set, stat}
+use Rattle.smc_script.specs.Trees.{CommandTree, PartTree, add, command_tree, compact, delete, get, load, one, group, part_tree, query, remove, set, stat, update}
 use Rattle.smc_load.specs.declared.fault.LoadFault.{LoadFault}
 use Rattle.smc_load.specs.declared.fault.LoadFault.TheVariants as fault
-use Rattle.smc_replies.specs.Books.{Books, no_books}
-use Rattle.smc_replies.specs.Commands.{RunsCommand, RunsIn, is_load}
+use Rattle.smc_replies.specs.Books.{Books, books_of}
+use Rattle.smc_replies.specs.Commands.{RunsCommand, is_load}
 use Rattle.smc_replies.specs.Loads.{Scene}
 use Rattle.smc_replies.specs.Scripts.{CanRunPart}
 use Rattle.smc_replies.proofs.PartLaws.{one-more}
@@ -57,27 +58,12 @@ next-part parts i d within =
     take-map part_tree (i + 1) parts ∙ map_more part_tree parts i d within ∙ ap (λ (x : List PartTree). x ++ part_tree (get_or parts i d) ∷ []) (sym (take-map part_tree i parts))
 
 -- it may be run where all may
-pub may-next : (shape : Layout) (parts : List Part) (i : ℕ) (d : Part) → i < length parts → AllByRecursion (CanRunPart shape) (map part_tree parts) → CanRunPart shape (part_tree (get_or parts i d))
-may-next shape [] i d within all = absurd (omega arith)
-may-next shape (part ∷ parts) zero d within all = all.0
-may-next shape (part ∷ parts) (suc i) d within all = may-next shape parts i d (omega (arith, within)) all.1
+pub may-next : (shape : Layout) (folds : List Word) (parts : List Part) (i : ℕ) (d : Part) → i < length parts → AllByRecursion (CanRunPart shape folds) (map part_tree parts) → CanRunPart shape folds (part_tree (get_or parts i d))
+may-next shape folds [] i d within all = absurd (omega arith)
+may-next shape folds (part ∷ parts) zero d within all = all.0
+may-next shape folds (part ∷ parts) (suc i) d within all = may-next shape folds parts i d (omega (arith, within)) all.1
 
 -- ---- one command
-
-a-load : true ≡ false → ⊥
-a-load is = cc
-
--- what a command does that reads no file, it does in every scene
-pub runs-in : (scene : Scene) (c : CommandTree) (old new : Books) (calls : List CallEnd) (text : List ℕ) → is_load c ≡ false → RunsCommand c old new calls text → RunsIn scene c old new calls text
-runs-in scene (load place file) old new calls text plain runs = absurd (a-load plain)
-runs-in scene (add place name row) old new calls text plain runs = runs
-runs-in scene (get place name) old new calls text plain runs = runs
-runs-in scene (remove place name) old new calls text plain runs = runs
-runs-in scene (set place name column value) old new calls text plain runs = runs
-runs-in scene (query place tree) old new calls text plain runs = runs
-runs-in scene (compact place) old new calls text plain runs = runs
-runs-in scene (stat place) old new calls text plain runs = runs
-runs-in scene _ old new calls text plain runs = absurd runs
 
 -- a command that is no load reads no file
 pub no-load : (c : Command) → ((place : Place) (file : Word) → c ≡ of.Load place file → ⊥) → is_load (command_tree c) ≡ false
@@ -95,10 +81,14 @@ no-load (of.DropFold name) not = refl
 
 -- a command was run, and its reply written, or a front of it
 pub one-ends : (scene : Scene) (status : RunEnd) (line : ℕ) (c : CommandTree) (known now : Books) (old new : Caller) (a b : Option (List ℕ)) (text : List ℕ)
-    → DoesSome old new (λ calls. RunsIn scene c known now calls text) → Writes status a b text → PartEnds scene status (one (record { line = line; command = c })) known now old new a b
+    → DoesSome old new (λ calls. RunsCommand scene c known now calls text) → Writes status a b text → PartEnds scene status (one (record { line = line; command = c })) known now old new a b
 one-ends scene Done line c known now old new a b text done writes = (done.0, done.1, (text, done.2, writes))
 one-ends scene WriteFault line c known now old new a b text done writes = (done.0, done.1, (text, done.2, writes))
 one-ends scene _ line c known now old new a b text done writes = absurd writes
+
+-- where it was, no file failed
+pub no-read : (status : RunEnd) (a b : Option (List ℕ)) (text : List ℕ) → Writes status a b text → status ≡ ReadFault → ⊥
+no-read status a b text writes is = subst (λ (e : RunEnd). Writes e a b text) is writes
 
 -- a load was not
 stops-at : (scene : Scene) (line : ℕ) (place : Place) (file : Word) (why : LoadFault) (known now : Books) (old new : Caller) (out : Option (List ℕ))
@@ -177,6 +167,12 @@ module _ (scene : Scene) (known : Books) where
       let front : take (length stops.run) parts ≡ stops.run = ap (λ (x : List PartTree). take (length stops.run) x) stops.are ∙ take-front stops.run (stops.part ∷ stops.behind) in
       (stops.first, (length stops.run, stops.now, subst (λ x. Replies scene AppendsFront x known stops.now stops.first a b) (sym front) (said.0, said.1, front-all a b said.0 said.2)))
 
+  -- all of them were
+  pub all-ran : (parts : List PartTree) (count : ℕ) (now : Books) (first last : Caller) (a b : Option (List ℕ)) → length parts ≤ count
+      → DoesSome first last (λ calls. Replies scene Appends (take count parts) known now calls a b) → PartsEnd scene Done parts known first last a b
+  all-ran parts count now first last a b many ran =
+      (ran.0, ran.1, (now, subst (λ (ps : List PartTree). Replies scene Appends ps known now ran.0 a b) (take_all count parts many) ran.2))
+
   -- the parts end with one that did not go on
   pub ends-within : (status : RunEnd) (all : List PartTree) (count : ℕ) (part : PartTree) (now next : Books) (first middle last : Caller) (a b c : Option (List ℕ))
       → take (count + 1) all ≡ take count all ++ part ∷ []
@@ -196,27 +192,27 @@ module _ (scene : Scene) (known : Books) where
 -- ---- the whole run
 
 -- it was not, for want of memory
-unclosed : (Closed : Option Ended → List CallEnd → Type 0) (scene : Scene) (parts : List PartTree) (a b : Option (List ℕ)) → (ran : List CallEnd) × RepliesFront scene parts no_books ran a b
-    → RunsAs Closed scene NoMemory parts None a b
-unclosed Closed scene parts a b front = (front.0, front.1, refl)
+unclosed : (Closed : Option Ended → List CallEnd → Type 0) (scene : Scene) (kinds : List Kind) (parts : List PartTree) (a b : Option (List ℕ)) → (ran : List CallEnd) × RepliesFront scene parts (books_of kinds) ran a b
+    → RunsAs Closed scene kinds NoMemory parts None a b
+unclosed Closed scene kinds parts a b front = (front.0, front.1, refl)
 
-pub ends-unclosed : (Closed : Option Ended → List CallEnd → Type 0) (scene : Scene) (status : RunEnd) (parts : List PartTree) (old new : Caller) (a b : Option (List ℕ))
-    → PartsEnd scene status parts no_books old new a b → RunsAs Closed scene NoMemory parts None a b
-ends-unclosed Closed scene Done parts old new a b ends = (ends.0, front-of-all scene no_books parts ends.0 a b ends.2, refl)
-ends-unclosed Closed scene WriteFault parts old new a b ends = (ends.0, ends.2, refl)
-ends-unclosed Closed scene NoMemory parts old new a b ends = (ends.0, ends.1, refl)
-ends-unclosed Closed scene (NoFile name) parts old new a b ends = unclosed Closed scene parts a b (front-of-stopped scene no_books (NoFile name) parts ends.0 a b ends.2)
-ends-unclosed Closed scene (BadTable name line) parts old new a b ends = unclosed Closed scene parts a b (front-of-stopped scene no_books (BadTable name line) parts ends.0 a b ends.2)
-ends-unclosed Closed scene (TableFull name line) parts old new a b ends = unclosed Closed scene parts a b (front-of-stopped scene no_books (TableFull name line) parts ends.0 a b ends.2)
-ends-unclosed Closed scene ReadFault parts old new a b ends = unclosed Closed scene parts a b (front-of-stopped scene no_books ReadFault parts ends.0 a b ends.2)
+pub ends-unclosed : (Closed : Option Ended → List CallEnd → Type 0) (scene : Scene) (kinds : List Kind) (status : RunEnd) (parts : List PartTree) (old new : Caller) (a b : Option (List ℕ))
+    → PartsEnd scene status parts (books_of kinds) old new a b → RunsAs Closed scene kinds NoMemory parts None a b
+ends-unclosed Closed scene kinds Done parts old new a b ends = (ends.0, front-of-all scene (books_of kinds) parts ends.0 a b ends.2, refl)
+ends-unclosed Closed scene kinds WriteFault parts old new a b ends = (ends.0, ends.2, refl)
+ends-unclosed Closed scene kinds NoMemory parts old new a b ends = (ends.0, ends.1, refl)
+ends-unclosed Closed scene kinds (NoFile name) parts old new a b ends = unclosed Closed scene kinds parts a b (front-of-stopped scene (books_of kinds) (NoFile name) parts ends.0 a b ends.2)
+ends-unclosed Closed scene kinds (BadTable name line) parts old new a b ends = unclosed Closed scene kinds parts a b (front-of-stopped scene (books_of kinds) (BadTable name line) parts ends.0 a b ends.2)
+ends-unclosed Closed scene kinds (TableFull name line) parts old new a b ends = unclosed Closed scene kinds parts a b (front-of-stopped scene (books_of kinds) (TableFull name line) parts ends.0 a b ends.2)
+ends-unclosed Closed scene kinds ReadFault parts old new a b ends = unclosed Closed scene kinds parts a b (front-of-stopped scene (books_of kinds) ReadFault parts ends.0 a b ends.2)
 
 -- ---- without rooms
 
 -- a command needs a room
-cannot : (part : PartTree) → CanRunPart (shape_asked []) part → ⊥
-cannot (one numbered) may = go numbered.command may
+cannot : (folds : List Word) (part : PartTree) → CanRunPart (shape_asked []) folds part → ⊥
+cannot folds (one numbered) may = go numbered.command may
   where
-    go : (c : CommandTree) → CanRunPart (shape_asked []) (one (record { line = numbered.line; command = c })) → ⊥
+    go : (c : CommandTree) → CanRunPart (shape_asked []) folds (one (record { line = numbered.line; command = c })) → ⊥
     go (load place file) may = let none = may.coll in omega (arith, none)
     go (stat place) may = omega (arith, may)
     go (query place tree) may = omega (arith, may.1)
@@ -225,13 +221,15 @@ cannot (one numbered) may = go numbered.command may
     go (get place name) may = let none = may.coll in omega (arith, none)
     go (set place name column value) may = let none = may.0.coll in omega (arith, none)
     go (remove place name) may = omega (arith, may)
+    go (delete place filter) may = omega (arith, may.1)
+    go (update place column value filter) may = let none = may.1.coll in omega (arith, none)
     go _ may = may
-cannot (group workers) may = may
+cannot folds (group workers) may = may
 
-pub no-parts : (parts : List PartTree) → AllByRecursion (CanRunPart (shape_asked [])) parts → parts ≡ []
-no-parts [] all = refl
-no-parts (part ∷ later) all = absurd (cannot part all.0)
+pub no-parts : (folds : List Word) (parts : List PartTree) → AllByRecursion (CanRunPart (shape_asked []) folds) parts → parts ≡ []
+no-parts folds [] all = refl
+no-parts folds (part ∷ later) all = absurd (cannot folds part all.0)
 
-pub nothing-to-run : (scene : Scene) (rooms : List Room) (parts : List PartTree) (a : Option (List ℕ)) → length rooms ≡ 0 → AllByRecursion (CanRunPart (shape_asked rooms)) parts → RunsAs (Closes rooms) scene Done parts None a a
-nothing-to-run scene [] parts a none may = subst (λ (ps : List PartTree). RunsAs (Closes []) scene Done ps None a a) (sym (no-parts parts may)) ([], (no_books, ([], (refl, refl, refl), Appends-nil a)), refl)
-nothing-to-run scene (room ∷ later) parts a none may = absurd (omega arith)
+pub nothing-to-run : (scene : Scene) (kinds : List Kind) (folds : List Word) (rooms : List Room) (parts : List PartTree) (a : Option (List ℕ)) → length rooms ≡ 0 → AllByRecursion (CanRunPart (shape_asked rooms) folds) parts → RunsAs (Closes rooms) scene kinds Done parts None a a
+nothing-to-run scene kinds folds [] parts a none may = subst (λ (ps : List PartTree). RunsAs (Closes []) scene kinds Done ps None a a) (sym (no-parts folds parts may)) ([], (books_of kinds, ([], (refl, refl, refl), Appends-nil a)), refl)
+nothing-to-run scene kinds folds (room ∷ later) parts a none may = absurd (omega arith)

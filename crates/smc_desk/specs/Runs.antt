@@ -16,7 +16,8 @@ use Rattle.smc_types.specs.Tables.{the_tables}
 use Rattle.smc_script.specs.declared.script.Room.{Room}
 use Rattle.smc_script.specs.Tables.{table_width}
 use Rattle.smc_script.specs.Trees.{PartTree, ScriptTree}
-use Rattle.smc_replies.specs.Books.{Books, no_books}
+use Rattle.smc_replies.specs.Books.{Books, books_of}
+use Rattle.smc_folds.specs.Kinds.{Kind}
 use Rattle.smc_query.specs.Trees.{Word}
 use Rattle.smc_types.specs.declared.schema.Schema.{Schema}
 use Rattle.smc_script.specs.declared.script.Place.{Place}
@@ -46,13 +47,13 @@ MayOpen (room ∷ later) = fault_of 1 (colls_asked (room ∷ later)) ≡ None
 
 -- ---- parts that are run by a pass
 
--- what is known between commands
-abbrev pub seen : own.Books → Books
-seen books = record { names = books.names; keys = books.keys }
+-- what is known between commands, where the boxes of the bench are these
+abbrev pub seen : own.Books → List Kind → Books
+seen books kinds = record { names = books.names; keys = books.keys; folds = kinds }
 
 -- what a script stands in
-abbrev pub scene_of : Told → Layout → Scene
-scene_of files shape = record { files = files; shape = shape }
+abbrev pub scene_of : Told → Layout → List Word → Scene
+scene_of files shape folds = record { files = files; shape = shape; folds = folds }
 
 -- parts were run by these calls, with what was known before them and after them, and what was written grew in this way by
 -- their replies
@@ -147,13 +148,15 @@ Closes (room ∷ later) quiet calls = HasClosed (shape_asked (room ∷ later)) q
 
 -- ---- a script
 
--- how the running of parts ends, before which nothing was known: by calls that are those of the closed region
-abbrev pub RunsAs : (Option Ended → List CallEnd → Type 0) → Scene → RunEnd → List PartTree → Option Ended → Option (List ℕ) → Option (List ℕ) → Type 0
-RunsAs Closed scene Done parts quiet before after = (calls : List CallEnd) × RepliesAll scene parts no_books calls before after × Closed quiet calls
-RunsAs Closed scene WriteFault parts quiet before after = (calls : List CallEnd) × RepliesFront scene parts no_books calls before after × Closed quiet calls
-RunsAs Closed scene NoMemory parts quiet before after = (calls : List CallEnd) × RepliesFront scene parts no_books calls before after × (quiet ≡ None)
-RunsAs Closed scene end parts quiet before after = (calls : List CallEnd) × StopsWithin scene end parts no_books calls before after × Closed quiet calls
+-- how the running of parts ends, before which these folds were handed in and no more was known: by calls that are those of the
+-- closed region
+abbrev pub RunsAs : (Option Ended → List CallEnd → Type 0) → Scene → List Kind → RunEnd → List PartTree → Option Ended → Option (List ℕ) → Option (List ℕ) → Type 0
+RunsAs Closed scene kinds Done parts quiet before after = (calls : List CallEnd) × RepliesAll scene parts (books_of kinds) calls before after × Closed quiet calls
+RunsAs Closed scene kinds WriteFault parts quiet before after = (calls : List CallEnd) × RepliesFront scene parts (books_of kinds) calls before after × Closed quiet calls
+RunsAs Closed scene kinds NoMemory parts quiet before after = (calls : List CallEnd) × RepliesFront scene parts (books_of kinds) calls before after × (quiet ≡ None)
+RunsAs Closed scene kinds end parts quiet before after = (calls : List CallEnd) × StopsWithin scene end parts (books_of kinds) calls before after × Closed quiet calls
 
--- how the running of a script over these files ends
-abbrev pub RunsTo : RunEnd → Told → ScriptTree → Option Ended → Option (List ℕ) → Option (List ℕ) → Type 0
-RunsTo end files script quiet before after = RunsAs (Closes script.rooms) (scene_of files (shape_asked script.rooms)) end script.parts quiet before after
+-- how the running of a script over these files and folds ends
+abbrev pub RunsTo : RunEnd → Told → List Kind → ScriptTree → Option Ended → Option (List ℕ) → Option (List ℕ) → Type 0
+RunsTo end files kinds script quiet before after =
+    RunsAs (Closes script.rooms) (scene_of files (shape_asked script.rooms) script.folds) kinds end script.parts quiet before after

@@ -10,7 +10,7 @@ ghost use Rattle.smc_script.specs.Trees.{numbered_tree, part_tree, script_tree};
 ghost use Rattle.smc_script.specs.Trees as trees;
 ghost use Rattle.smc_region.specs.Reached.{IsReached};
 ghost use Rattle.smc_core.specs.declared.section.TheConstants.{FIRST_EPOCH};
-ghost use Rattle.smc_replies.specs.Books.{no_books};
+ghost use Rattle.smc_replies.specs.Books.{books_of};
 ghost use Rattle.smc_replies.specs.Scripts.{CanRunPart};
 ghost use Rattle.smc_desk.specs.Runs.{HasClosed, MayOpen, PartEnds, PartsEnd, Writes, RunsAs, RunsTo, colls_asked, end_of, scene_of, seen, shape_asked};
 
@@ -19,10 +19,11 @@ use crate::loads::load_table;
 use crate::outside::one;
 use crate::reply::Reply;
 use smc_core::Opening;
+use smc_folds::{Bench, Fold};
 use smc_load::LoadFault;
 use smc_outside::{Shelf, Sink, write_all};
 use smc_region::{Pass, Quiet, Region};
-use smc_script::{Command, FileName, Numbered, Part, Room, Script, table_width};
+use smc_script::{Command, FileName, FoldNames, Numbered, Part, Room, Script, table_width};
 use smc_shape::{CollShape, Shape};
 use smc_types::Catalog;
 use smc_words::NoMemory;
@@ -115,7 +116,9 @@ fn run_one<F: Shelf, O: Sink>(
     alloc: Global,
     numbered: &Numbered,
     catalog: &Catalog,
+    folds: &FoldNames,
     books: &mut Books,
+    bench: &mut Bench,
     shelf: &mut F,
     pass: Pass,
     region: &Region,
@@ -124,9 +127,9 @@ fn run_one<F: Shelf, O: Sink>(
     requires here { IsPassOf region.now pass }
     requires free { OwnsNone pass }
     requires tables { catalog.now ≡ the_tables }
-    requires may { CanRunPart region.now.about.shape (trees.one (numbered_tree numbered.now)) }
+    requires may { CanRunPart region.now.about.shape folds.now (trees.one (numbered_tree numbered.now)) }
     ensures home { IsSame pass result.0 × OwnsNone result.0 }
-    ensures ends { PartEnds (scene_of (F.files shelf.old) region.now.about.shape) result.1 (trees.one (numbered_tree numbered.now)) (seen books.old) (seen books.new) pass result.0 (O.held out.old) (O.held out.new) }
+    ensures ends { PartEnds (scene_of (F.files shelf.old) region.now.about.shape folds.now) result.1 (trees.one (numbered_tree numbered.now)) (seen books.old (map (λ b. (⟦<dyn Fold as Fold>⟧ b.fold.vtable).kind b.fold.value) bench.old.boxes.items)) (seen books.new (map (λ b. (⟦<dyn Fold as Fold>⟧ b.fold.vtable).kind b.fold.value) bench.new.boxes.items)) pass result.0 (O.held out.old) (O.held out.new) }
     ensures cause { result.1 ≡ RunEnd.WriteFault → Rose (O.faults out.old) (O.faults out.new) }
     ensures later { O.faults out.old ≤ O.faults out.new }
     ensures read_cause { result.1 ≡ RunEnd.ReadFault → Rose (F.faults shelf.old) (F.faults shelf.new) }
@@ -140,7 +143,16 @@ fn run_one<F: Shelf, O: Sink>(
             Err(fault) => (pass, end_of(alloc, file, fault)),
         };
     }
-    let (pass, reply) = one(alloc, &numbered.command, catalog, books, pass, region);
+    let (pass, reply) = one(
+        alloc,
+        &numbered.command,
+        catalog,
+        folds,
+        books,
+        bench,
+        pass,
+        region,
+    );
     match reply {
         Ok(reply) => (pass, write_reply(out, &reply)),
         Err(_) => (pass, RunEnd::NoMemory),
@@ -152,7 +164,9 @@ fn run_part<F: Shelf, O: Sink>(
     alloc: Global,
     part: &Part,
     catalog: &Catalog,
+    folds: &FoldNames,
     books: &mut Books,
+    bench: &mut Bench,
     shelf: &mut F,
     pass: Pass,
     region: &Region,
@@ -161,9 +175,9 @@ fn run_part<F: Shelf, O: Sink>(
     requires here { IsPassOf region.now pass }
     requires free { OwnsNone pass }
     requires tables { catalog.now ≡ the_tables }
-    requires may { CanRunPart region.now.about.shape (part_tree part.now) }
+    requires may { CanRunPart region.now.about.shape folds.now (part_tree part.now) }
     ensures home { IsSame pass result.0 × OwnsNone result.0 }
-    ensures ends { PartEnds (scene_of (F.files shelf.old) region.now.about.shape) result.1 (part_tree part.now) (seen books.old) (seen books.new) pass result.0 (O.held out.old) (O.held out.new) }
+    ensures ends { PartEnds (scene_of (F.files shelf.old) region.now.about.shape folds.now) result.1 (part_tree part.now) (seen books.old (map (λ b. (⟦<dyn Fold as Fold>⟧ b.fold.vtable).kind b.fold.value) bench.old.boxes.items)) (seen books.new (map (λ b. (⟦<dyn Fold as Fold>⟧ b.fold.vtable).kind b.fold.value) bench.new.boxes.items)) pass result.0 (O.held out.old) (O.held out.new) }
     ensures cause { result.1 ≡ RunEnd.WriteFault → Rose (O.faults out.old) (O.faults out.new) }
     ensures later { O.faults out.old ≤ O.faults out.new }
     ensures read_cause { result.1 ≡ RunEnd.ReadFault → Rose (F.faults shelf.old) (F.faults shelf.new) }
@@ -172,7 +186,9 @@ fn run_part<F: Shelf, O: Sink>(
 {
     match part {
         Part::One(numbered) => {
-            run_one(alloc, numbered, catalog, books, shelf, pass, region, out)
+            run_one(
+                alloc, numbered, catalog, folds, books, bench, shelf, pass, region, out,
+            )
         }
         Part::Group { .. } => unreachable!(),
     }
@@ -183,7 +199,9 @@ fn run_parts<F: Shelf, O: Sink>(
     alloc: Global,
     parts: &[Part],
     catalog: &Catalog,
+    folds: &FoldNames,
     books: &mut Books,
+    bench: &mut Bench,
     shelf: &mut F,
     pass: Pass,
     region: &Region,
@@ -192,9 +210,9 @@ fn run_parts<F: Shelf, O: Sink>(
     requires here { IsPassOf region.now pass }
     requires free { OwnsNone pass }
     requires tables { catalog.now ≡ the_tables }
-    requires may { AllByRecursion (CanRunPart region.now.about.shape) (map part_tree parts.now) }
+    requires may { AllByRecursion (CanRunPart region.now.about.shape folds.now) (map part_tree parts.now) }
     ensures home { IsSame pass result.0 × OwnsNone result.0 }
-    ensures ends { PartsEnd (scene_of (F.files shelf.old) region.now.about.shape) result.1 (map part_tree parts.now) (seen books.old) pass result.0 (O.held out.old) (O.held out.new) }
+    ensures ends { PartsEnd (scene_of (F.files shelf.old) region.now.about.shape folds.now) result.1 (map part_tree parts.now) (seen books.old (map (λ b. (⟦<dyn Fold as Fold>⟧ b.fold.vtable).kind b.fold.value) bench.old.boxes.items)) pass result.0 (O.held out.old) (O.held out.new) }
     ensures cause { result.1 ≡ RunEnd.WriteFault → Rose (O.faults out.old) (O.faults out.new) }
     ensures later { O.faults out.old ≤ O.faults out.new }
     ensures read_cause { result.1 ≡ RunEnd.ReadFault → Rose (F.faults shelf.old) (F.faults shelf.new) }
@@ -203,7 +221,9 @@ fn run_parts<F: Shelf, O: Sink>(
 {
     let mut pass = pass;
     for part in parts {
-        let (next, end) = run_part(alloc, part, catalog, books, shelf, pass, region, out);
+        let (next, end) = run_part(
+            alloc, part, catalog, folds, books, bench, shelf, pass, region, out,
+        );
         pass = next;
         match end {
             RunEnd::Done => {}
@@ -213,11 +233,13 @@ fn run_parts<F: Shelf, O: Sink>(
     (pass, RunEnd::Done)
 }
 
-// Runs the parts of a whole script, before which nothing is known.
+// Runs the parts of a whole script, before which nothing is known but the folds.
 fn run_all<F: Shelf, O: Sink>(
     alloc: Global,
     parts: &[Part],
     catalog: &Catalog,
+    folds: &FoldNames,
+    bench: &mut Bench,
     shelf: &mut F,
     pass: Pass,
     region: &Region,
@@ -226,9 +248,9 @@ fn run_all<F: Shelf, O: Sink>(
     requires here { IsPassOf region.now pass }
     requires free { OwnsNone pass }
     requires tables { catalog.now ≡ the_tables }
-    requires may { AllByRecursion (CanRunPart region.now.about.shape) (map part_tree parts.now) }
+    requires may { AllByRecursion (CanRunPart region.now.about.shape folds.now) (map part_tree parts.now) }
     ensures home { IsSame pass result.0 × OwnsNone result.0 }
-    ensures ends { PartsEnd (scene_of (F.files shelf.old) region.now.about.shape) result.1 (map part_tree parts.now) no_books pass result.0 (O.held out.old) (O.held out.new) }
+    ensures ends { PartsEnd (scene_of (F.files shelf.old) region.now.about.shape folds.now) result.1 (map part_tree parts.now) (books_of (map (λ b. (⟦<dyn Fold as Fold>⟧ b.fold.vtable).kind b.fold.value) bench.old.boxes.items)) pass result.0 (O.held out.old) (O.held out.new) }
     ensures cause { result.1 ≡ RunEnd.WriteFault → Rose (O.faults out.old) (O.faults out.new) }
     ensures later { O.faults out.old ≤ O.faults out.new }
     ensures read_cause { result.1 ≡ RunEnd.ReadFault → Rose (F.faults shelf.old) (F.faults shelf.new) }
@@ -236,7 +258,9 @@ fn run_all<F: Shelf, O: Sink>(
     ensures shelf_later { F.faults shelf.old ≤ F.faults shelf.new }
 {
     let mut books = Books::new(alloc);
-    run_parts(alloc, parts, catalog, &mut books, shelf, pass, region, out)
+    run_parts(
+        alloc, parts, catalog, folds, &mut books, bench, shelf, pass, region, out,
+    )
 }
 
 // A region without objects, and its one pass. The vector has room for that pass.
@@ -275,13 +299,15 @@ fn run_in<F: Shelf, O: Sink>(
     catalog: &Catalog,
     shape: Shape,
     parts: &[Part],
+    folds: &FoldNames,
+    bench: &mut Bench,
     shelf: &mut F,
     out: &mut O,
 ) -> Ran
     requires tables { catalog.now ≡ the_tables }
     requires one { shape.passes ≡ 1 }
-    requires may { AllByRecursion (CanRunPart shape) (map part_tree parts.now) }
-    ensures ends { RunsAs (HasClosed shape) (scene_of (F.files shelf.old) shape) result.end (map part_tree parts.now) result.quiet (O.held out.old) (O.held out.new) }
+    requires may { AllByRecursion (CanRunPart shape folds.now) (map part_tree parts.now) }
+    ensures ends { RunsAs (HasClosed shape) (scene_of (F.files shelf.old) shape folds.now) (map (λ b. (⟦<dyn Fold as Fold>⟧ b.fold.vtable).kind b.fold.value) bench.old.boxes.items) result.end (map part_tree parts.now) result.quiet (O.held out.old) (O.held out.new) }
     ensures cause { result.end ≡ RunEnd.WriteFault → Rose (O.faults out.old) (O.faults out.new) }
     ensures later { O.faults out.old ≤ O.faults out.new }
     ensures read_cause { result.end ≡ RunEnd.ReadFault → Rose (F.faults shelf.old) (F.faults shelf.new) }
@@ -290,7 +316,9 @@ fn run_in<F: Shelf, O: Sink>(
     let Ok((region, pass, passes)) = open_region(alloc, shape) else {
         return Ran::without(RunEnd::NoMemory);
     };
-    let (pass, end) = run_all(alloc, parts, catalog, shelf, pass, &region, out);
+    let (pass, end) = run_all(
+        alloc, parts, catalog, folds, bench, shelf, pass, &region, out,
+    );
     if matches!(end, RunEnd::NoMemory) {
         return Ran::without(RunEnd::NoMemory);
     }
@@ -303,18 +331,19 @@ fn run_in<F: Shelf, O: Sink>(
     }
 }
 
-/// Runs a script without groups. Each reply is written before the next command starts.
+/// Runs a script without groups, whose folds are the boxes of the bench. Each reply is written before the next command starts.
 pub fn run_alone<F: Shelf, O: Sink>(
     alloc: Global,
     script: &Script,
     catalog: &Catalog,
+    bench: &mut Bench,
     shelf: &mut F,
     out: &mut O,
 ) -> Ran
     requires tables { catalog.now ≡ the_tables }
     requires opens { MayOpen script.now.rooms }
-    requires may { AllByRecursion (CanRunPart (shape_asked script.now.rooms)) (map part_tree script.now.parts) }
-    ensures ends { RunsTo result.end (F.files shelf.old) (script_tree script.now) result.quiet (O.held out.old) (O.held out.new) }
+    requires may { AllByRecursion (CanRunPart (shape_asked script.now.rooms) script.now.folds) (map part_tree script.now.parts) }
+    ensures ends { RunsTo result.end (F.files shelf.old) (map (λ b. (⟦<dyn Fold as Fold>⟧ b.fold.vtable).kind b.fold.value) bench.old.boxes.items) (script_tree script.now) result.quiet (O.held out.old) (O.held out.new) }
     ensures cause { result.end ≡ RunEnd.WriteFault → Rose (O.faults out.old) (O.faults out.new) }
     ensures later { O.faults out.old ≤ O.faults out.new }
     ensures read_cause { result.end ≡ RunEnd.ReadFault → Rose (F.faults shelf.old) (F.faults shelf.new) }
@@ -325,7 +354,16 @@ pub fn run_alone<F: Shelf, O: Sink>(
         return Ran::without(RunEnd::Done);
     }
     match shape_of(alloc, catalog, rooms) {
-        Ok(shape) => run_in(alloc, catalog, shape, script.parts.as_slice(), shelf, out),
+        Ok(shape) => run_in(
+            alloc,
+            catalog,
+            shape,
+            script.parts.as_slice(),
+            &script.folds,
+            bench,
+            shelf,
+            out,
+        ),
         Err(_) => Ran::without(RunEnd::NoMemory),
     }
 }

@@ -1,6 +1,7 @@
 //! What a script knows between its commands.
-ghost use Rattle.std.specs.Prelude.{◌≡◌, [], IfSome, OnOk};
-ghost use Rattle.smc_replies.specs.Books.{named, no_books, object_of, with_name};
+ghost use Rattle.std.specs.Prelude.{◌≡◌, [], IfSome, List, OnOk};
+ghost use Rattle.smc_folds.specs.Kinds.{Kind};
+ghost use Rattle.smc_replies.specs.Books.{books_of, named, object_of, with_name};
 ghost use Rattle.smc_desk.specs.Runs.{seen};
 
 use smc_types::Keys;
@@ -73,7 +74,7 @@ pub struct Books {
 impl Books {
     /// Those before the first command.
     pub fn new(alloc: Global) -> Books
-        ensures { seen result ≡ no_books }
+        ensures { (kinds : List Kind) → seen result kinds ≡ books_of kinds }
     {
         Books {
             names: Names::new(alloc),

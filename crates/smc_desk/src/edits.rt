@@ -31,10 +31,7 @@ pub(crate) fn can_delete(
     ensures { IfOk result (λ can. can ≡ is_ok (delete_plan (commands.table_name place.table) (cond_tree filter.now))) }
 {
     match plan_delete(alloc, table_name(catalog, place.table), filter, catalog) {
-        Ok(plan) => {
-            drop(plan);
-            Ok(true)
-        }
+        Ok(_) => Ok(true),
         Err(PlanFault::NoMemory) => Err(NoMemory),
         Err(_) => Ok(false),
     }
@@ -63,7 +60,6 @@ pub(crate) fn delete(
         Err(_) => unreachable!(),
     };
     let (pass, removed) = delete_rows(alloc, &plan, pass, region, place.coll);
-    drop(plan);
     match removed {
         Ok(removed) => (pass, deleted_line(alloc, removed)),
         Err(fault) => (pass, Err(fault)),
@@ -84,10 +80,7 @@ pub(crate) fn can_update(
 {
     let table = table_name(catalog, place.table);
     match plan_edit(alloc, table, column.as_str(), value, filter, catalog) {
-        Ok(plan) => {
-            drop(plan);
-            Ok(true)
-        }
+        Ok(_) => Ok(true),
         Err(PlanFault::NoMemory) => Err(NoMemory),
         Err(_) => Ok(false),
     }
@@ -119,7 +112,6 @@ pub(crate) fn update(
         Err(_) => unreachable!(),
     };
     let (pass, updated) = update_rows(alloc, &plan, pass, region, place.coll);
-    drop(plan);
     match updated {
         Ok(updated) => (pass, updated_line(alloc, updated)),
         Err(fault) => (pass, Err(fault)),

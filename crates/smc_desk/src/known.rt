@@ -1,10 +1,16 @@
 //! Which scripts are run: those whose commands all are.
-ghost use Rattle.std.specs.Prelude.{◌≡◌, map};
-ghost use Rattle.smc_script.specs.Trees.{numbered_tree, part_tree, worker_tree};
+ghost use Rattle.std.specs.Prelude.{◌≡◌, IfOk, map};
+ghost use Rattle.smc_script.specs.Trees.{command_tree, numbered_tree, part_tree, worker_tree};
+ghost use Rattle.smc_types.specs.Tables.{the_tables};
+ghost use Rattle.smc_replies.specs.Commands.{is_known};
 ghost use Rattle.smc_replies.specs.Scripts.{first_line, is_known_part, line_of, unknown_line};
 
-use crate::outside::is_known;
-use smc_script::{Numbered, Part};
+use crate::edits::{can_delete, can_update};
+use crate::queries::can_query;
+use smc_script::{Command, FoldNames, Numbered, Part};
+use smc_types::Catalog;
+use smc_words::NoMemory;
+use std::alloc::Global;
 
 // The line of the first command of these.
 fn first_line(commands: &[Numbered]) -> u64
@@ -29,24 +35,58 @@ fn line_of(part: &Part) -> u64
     }
 }
 
-// Whether a part is run.
-fn is_known_part(part: &Part) -> bool
-    ensures { result ≡ is_known_part (part_tree part.now) }
+/// Whether the command is one that is run, where the script was read with these folds.
+///
+/// # Errors
+/// Memory was refused for a plan.
+pub fn is_known(alloc: Global, c: &Command, catalog: &Catalog, folds: &FoldNames) -> Result<bool, NoMemory>
+    requires tables { catalog.now ≡ the_tables }
+    ensures { IfOk result (λ known. known ≡ is_known folds.now (command_tree c.now)) }
 {
-    match part {
-        Part::One(numbered) => is_known(&numbered.command),
-        Part::Group { .. } => false,
+    match c {
+        Command::Stat { .. } | Command::Load { .. } | Command::Compact { .. } => Ok(true),
+        Command::Add { .. } | Command::Get { .. } => Ok(true),
+        Command::Set { .. } | Command::Remove { .. } => Ok(true),
+        Command::Query { query, .. } => can_query(alloc, query, catalog, folds),
+        Command::Delete { place, filter } => can_delete(alloc, *place, filter, catalog),
+        Command::Update {
+            place,
+            column,
+            value,
+            filter,
+        } => can_update(alloc, *place, column, value, filter.as_ref(), catalog),
+        Command::DropFold { .. } => Ok(false),
     }
 }
 
-/// The line at which the first part that is not run begins.
-pub fn unknown_line(parts: &[Part]) -> Option<u64>
-    ensures { result ≡ unknown_line (map part_tree parts.now) }
+// Whether a part is run.
+fn is_known_part(alloc: Global, part: &Part, catalog: &Catalog, folds: &FoldNames) -> Result<bool, NoMemory>
+    requires tables { catalog.now ≡ the_tables }
+    ensures { IfOk result (λ known. known ≡ is_known_part folds.now (part_tree part.now)) }
+{
+    match part {
+        Part::One(numbered) => is_known(alloc, &numbered.command, catalog, folds),
+        Part::Group { .. } => Ok(false),
+    }
+}
+
+/// The line at which the first part that is not run begins, where the script was read with these folds.
+///
+/// # Errors
+/// Memory was refused for a plan.
+pub fn unknown_line(
+    alloc: Global,
+    parts: &[Part],
+    catalog: &Catalog,
+    folds: &FoldNames,
+) -> Result<Option<u64>, NoMemory>
+    requires tables { catalog.now ≡ the_tables }
+    ensures { IfOk result (λ line. line ≡ unknown_line folds.now (map part_tree parts.now)) }
 {
     for part in parts {
-        if !is_known_part(part) {
-            return Some(line_of(part));
+        if !is_known_part(alloc, part, catalog, folds)? {
+            return Ok(Some(line_of(part)));
         }
     }
-    None
+    Ok(None)
 }

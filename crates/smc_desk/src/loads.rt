@@ -1,8 +1,9 @@
 //! The loading of a file into its table.
-ghost use Rattle.std.specs.Prelude.{◌≡◌, ◌≤◌, Err, IfErr, IfOk};
+ghost use Rattle.std.specs.Prelude.{◌≡◌, ◌≤◌, Err, IfErr, IfOk, List};
 ghost use Rattle.smc_outside.specs.Causes.{Rose};
 ghost use Rattle.smc_region.specs.Callers.{IsPassOf, IsSame};
 ghost use Rattle.smc_does.specs.Does.{DoesSome, OwnsNone};
+ghost use Rattle.smc_folds.specs.Kinds.{Kind};
 ghost use Rattle.smc_types.specs.Tables.{the_tables};
 ghost use Rattle.smc_script.specs.Tables as tables;
 ghost use Rattle.smc_replies.specs.Commands.{IsTableOf};
@@ -36,9 +37,9 @@ pub(crate) fn load_table<F: Shelf>(
     requires here { IsPassOf region.now pass }
     requires tables { catalog.now ≡ the_tables }
     requires table { IsTableOf region.now.about.shape place }
-    ensures done { IfOk result.1 (λ reply. DoesSome pass result.0 (λ calls.
-        LoadsBy (tables.schema_of the_tables place.table) (F.files shelf.old) place file.now (seen books.old) (seen books.new) calls reply)) }
-    ensures stops { IfErr result.1 (λ fault. LoadStops fault (tables.schema_of the_tables place.table) (F.files shelf.old) place file.now (seen books.old) pass result.0) }
+    ensures done { (kinds : List Kind) → IfOk result.1 (λ reply. DoesSome pass result.0 (λ calls.
+        LoadsBy (tables.schema_of the_tables place.table) (F.files shelf.old) place file.now (seen books.old kinds) (seen books.new kinds) calls reply)) }
+    ensures stops { (kinds : List Kind) → IfErr result.1 (λ fault. LoadStops fault (tables.schema_of the_tables place.table) (F.files shelf.old) place file.now (seen books.old kinds) pass result.0) }
     ensures home { IsSame pass result.0 × (OwnsNone pass → OwnsNone result.0) }
     ensures failed { result.1 ≡ Err LoadFault.ReadFault → Rose (F.faults shelf.old) (F.faults shelf.new) }
     ensures kept { F.files shelf.new ≡ F.files shelf.old }

@@ -1,8 +1,9 @@
 //! The commands on one object, by its name.
-ghost use Rattle.std.specs.Prelude.{◌≡◌, Err, IfOk, Ok, OnOk, Result, Some};
+ghost use Rattle.std.specs.Prelude.{◌≡◌, Err, IfOk, List, Ok, OnOk, Result, Some};
 ghost use Rattle.smc_words.specs.declared.number.Number.{Number};
 ghost use Rattle.smc_region.specs.Callers.{IsPassOf, IsSame};
 ghost use Rattle.smc_does.specs.Does.{DoesSome, OwnsNone};
+ghost use Rattle.smc_folds.specs.Kinds.{Kind};
 ghost use Rattle.smc_types.specs.Tables.{the_tables};
 ghost use Rattle.smc_script.specs.Sound.{FitsColumn, FitsTable};
 ghost use Rattle.smc_script.specs.Tables as tables;
@@ -53,8 +54,8 @@ pub(crate) fn add(
     requires tables { catalog.now ≡ the_tables }
     requires table { IsTableOf region.now.about.shape place }
     requires row { FitsTable the_tables place.table row.now }
-    ensures done { IfOk result.1 (λ reply. DoesSome pass result.0 (λ calls.
-        AddsBy (tables.schema_of the_tables place.table) place name.now row.now (seen books.old) (seen books.new) calls reply)) }
+    ensures done { (kinds : List Kind) → IfOk result.1 (λ reply. DoesSome pass result.0 (λ calls.
+        AddsBy (tables.schema_of the_tables place.table) place name.now row.now (seen books.old kinds) (seen books.new kinds) calls reply)) }
     ensures home { IsSame pass result.0 × (OwnsNone pass → OwnsNone result.0) }
 {
     let Some(schema) = schema_of(catalog, place.table) else {

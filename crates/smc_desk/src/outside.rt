@@ -1,23 +1,25 @@
 //! A command outside a group.
-ghost use Rattle.std.specs.Prelude.{◌≡◌, ◌<◌, true, false, IfOk, length, map};
+ghost use Rattle.std.specs.Prelude.{◌≡◌, ◌<◌, false, IfOk, length, map};
 ghost use Rattle.smc_region.specs.Callers.{IsPassOf, IsSame};
 ghost use Rattle.smc_does.specs.Does.{DoesSome, OwnsNone};
-ghost use Rattle.smc_query.specs.Trees.{item_tree, query_tree};
 ghost use Rattle.smc_script.specs.Trees.{command_tree};
 ghost use Rattle.smc_types.specs.Tables.{the_tables};
-ghost use Rattle.smc_desk.specs.Runs.{seen};
-ghost use Rattle.smc_replies.specs.Commands.{CanRun, Counts, PacksTable, RunsCommand, count_row, counts_all, is_known, is_load, objects_line, shows_count};
+ghost use Rattle.smc_desk.specs.Runs.{scene_of, seen};
+ghost use Rattle.smc_load.specs.Files.{Told};
+ghost use Rattle.smc_replies.specs.Commands.{CanRun, Counts, PacksTable, RunsCommand, is_load, objects_line};
 
 use crate::books::Books;
+use crate::edits::{delete, update};
 use crate::objects::{add, get, remove, set};
-use crate::reply::{Reply, count_row, objects_line, packed_reply};
+use crate::queries::query;
+use crate::reply::{Reply, objects_line, packed_reply};
 use crate::tables::table_name;
 use smc_compact::pack;
+use smc_folds::{Bench, Fold};
 use smc_objects::count_objects;
-use smc_query::{Item, ItemCall, Query};
 use smc_region::{Pass, Region};
 use smc_replies::COMPACT_TURNS;
-use smc_script::{Command, Place};
+use smc_script::{Command, FoldNames, Place};
 use smc_types::Catalog;
 use smc_words::NoMemory;
 use std::alloc::Global;
@@ -31,17 +33,6 @@ fn stat(alloc: Global, coll: u8, pass: Pass, region: &Region) -> (Pass, Result<R
 {
     let (pass, count) = count_objects(pass, region, coll);
     (pass, objects_line(alloc, count))
-}
-
-/// Answers a query for the number of a table's rows, by the same calls.
-fn count(alloc: Global, coll: u8, pass: Pass, region: &Region) -> (Pass, Result<Reply, NoMemory>)
-    requires here { IsPassOf region.now pass }
-    requires coll { coll < length region.now.about.shape.colls }
-    ensures done { IfOk result.1 (λ reply. DoesSome pass result.0 (λ calls. Counts count_row coll calls reply)) }
-    ensures home { IsSame pass result.0 × (OwnsNone pass → OwnsNone result.0) }
-{
-    let (pass, count) = count_objects(pass, region, coll);
-    (pass, count_row(alloc, count))
 }
 
 /// Packs a table by a drive, and counts its objects afterwards.
@@ -74,21 +65,29 @@ pub fn one(
     alloc: Global,
     c: &Command,
     catalog: &Catalog,
+    folds: &FoldNames,
     books: &mut Books,
+    bench: &mut Bench,
     pass: Pass,
     region: &Region,
 ) -> (Pass, Result<Reply, NoMemory>)
     requires here { IsPassOf region.now pass }
     requires free { OwnsNone pass }
     requires tables { catalog.now ≡ the_tables }
-    requires can { CanRun region.now.about.shape (command_tree c.now) }
+    requires can { CanRun region.now.about.shape folds.now (command_tree c.now) }
     requires plain { is_load (command_tree c.now) ≡ false }
-    ensures done { IfOk result.1 (λ reply. DoesSome pass result.0 (λ calls. RunsCommand (command_tree c.now) (seen books.old) (seen books.new) calls reply)) }
+    ensures done { (files : Told) → IfOk result.1 (λ reply. DoesSome pass result.0 (λ calls.
+        RunsCommand (scene_of files region.now.about.shape folds.now) (command_tree c.now)
+        (seen books.old (map (λ b. (⟦<dyn Fold as Fold>⟧ b.fold.vtable).kind b.fold.value) bench.old.boxes.items))
+        (seen books.new (map (λ b. (⟦<dyn Fold as Fold>⟧ b.fold.vtable).kind b.fold.value) bench.new.boxes.items)) calls reply)) }
     ensures home { IsSame pass result.0 × OwnsNone result.0 }
 {
     match c {
         Command::Stat { place } => stat(alloc, place.coll, pass, region),
-        Command::Query { place, .. } => count(alloc, place.coll, pass, region),
+        Command::Query {
+            place,
+            query: asked,
+        } => query(alloc, *place, asked, catalog, folds, bench, pass, region),
         Command::Compact { place } => compact(alloc, *place, catalog, pass, region),
         Command::Add { place, name, row } => {
             add(alloc, *place, name, row, catalog, books, pass, region)
@@ -103,40 +102,22 @@ pub fn one(
             alloc, *place, name, column, value, catalog, books, pass, region,
         ),
         Command::Remove { place, name } => remove(alloc, *place, name, books, pass, region),
+        Command::Delete { place, filter } => delete(alloc, *place, filter, catalog, pass, region),
+        Command::Update {
+            place,
+            column,
+            value,
+            filter,
+        } => update(
+            alloc,
+            *place,
+            column,
+            value,
+            filter.as_ref(),
+            catalog,
+            pass,
+            region,
+        ),
         _ => unreachable!(),
-    }
-}
-
-// Whether `count()`, without a label, is the only column.
-fn shows_count(items: &[Item]) -> bool
-    ensures { result ≡ shows_count (map item_tree items.now) }
-{
-    match items {
-        [item] => matches!(item.call, ItemCall::Count) && item.label.is_none(),
-        _ => false,
-    }
-}
-
-// Whether the query asks how many rows its table has, and for nothing else.
-fn counts_all(query: &Query) -> bool
-    ensures { result ≡ counts_all (query_tree query.now) }
-{
-    query.filter.is_none()
-        && query.by.as_slice().is_empty()
-        && shows_count(query.items.as_slice())
-        && query.sort.as_slice().is_empty()
-        && query.first.is_none()
-}
-
-/// Whether the command is one that is run.
-pub fn is_known(c: &Command) -> bool
-    ensures { result ≡ is_known (command_tree c.now) }
-{
-    match c {
-        Command::Stat { .. } => true,
-        Command::Query { query, .. } => counts_all(query),
-        Command::Load { .. } | Command::Compact { .. } | Command::Add { .. } => true,
-        Command::Get { .. } | Command::Set { .. } | Command::Remove { .. } => true,
-        _ => false,
     }
 }

@@ -1,10 +1,10 @@
 //! The reply to a command.
 ghost use Rattle.std.specs.Prelude.{◌≡◌, IfOk, codes, length, string_bytes};
 ghost use Rattle.smc_types.specs.Columns.{columns_width};
-ghost use Rattle.smc_replies.specs.Edits.{deleted_line, updated_line};
 ghost use Rattle.smc_replies.specs.Loads.{loaded_line};
 ghost use Rattle.smc_replies.specs.Objects.{PrintsObject, add_line, found_line, null_line};
-ghost use Rattle.smc_replies.specs.Commands.{count_row, objects_line, packed_line, packed_reply};
+ghost use Rattle.smc_replies.specs.Commands.{objects_line, packed_line, packed_reply};
+ghost use Rattle.smc_replies.specs.Edits.{deleted_line, updated_line};
 
 use smc_compact::{Census, Outcome, Packed};
 use smc_exec::Updated;
@@ -38,6 +38,13 @@ impl Reply {
         }
     }
 
+    /// From bytes, which takes no memory.
+    pub(crate) fn from_bytes(text: Vec<u8>) -> Reply
+        ensures { result ≡ text.items }
+    {
+        Reply { text }
+    }
+
     /// The bytes of the reply.
     pub fn text(&self) -> &[u8]
         ensures { result.now ≡ self.now }
@@ -51,13 +58,6 @@ pub(crate) fn objects_line(alloc: Global, count: u64) -> Result<Reply, NoMemory>
     ensures { IfOk result (λ reply. reply ≡ objects_line count) }
 {
     Ok(Reply::of(format!(in alloc; "objects {count}\n")?))
-}
-
-/// An answer of one row, which says how many rows the query has met.
-pub(crate) fn count_row(alloc: Global, count: u64) -> Result<Reply, NoMemory>
-    ensures { IfOk result (λ reply. reply ≡ count_row count) }
-{
-    Ok(Reply::of(format!(in alloc; "rows 1\n{count}\n")?))
 }
 
 // The line that says how many objects a table of this name has, and how many blocks hold them.
@@ -152,5 +152,5 @@ pub(crate) fn object_reply(
     let row = decode(alloc, words, schema)?;
     let mut text = print_row(alloc, &row, schema)?;
     text.push(b'\n')?;
-    Ok(Reply { text })
+    Ok(Reply::from_bytes(text))
 }

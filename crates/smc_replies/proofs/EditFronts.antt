@@ -6,20 +6,15 @@ use Rattle.smc_trace.specs.Trace.{CallEnd}
 use Rattle.smc_query.specs.Trees.{CondTree, ExprTree, Word}
 use Rattle.smc_plan.specs.Edits.{PlannedEdit}
 use Rattle.smc_plan.specs.Planned.{Planned}
-use Rattle.smc_plan.specs.declared.fault.PlanFault.{PlanFault}
 use Rattle.smc_visits.specs.declared.edits.Edits.{Edits}
 use Rattle.smc_visits.proofs.EditFronts.{edits-front}
 use Rattle.smc_exec.specs.Deletes.{DeletesRows, deletes}
 use Rattle.smc_exec.specs.Updates.{UpdatesRows, updates}
 use Rattle.smc_exec.specs.declared.update.Updated.{Updated}
 use Rattle.smc_replies.specs.Edits.{DeletesWhere, UpdatesWhere, delete_plan, deleted_line, update_plan, updated_line}
-use Rattle.smc_replies.proofs.Replied.{IsOneReply}
+use Rattle.smc_replies.proofs.Replied.{IsOneReply, one-plan}
 use Rattle.smc_replies.proofs.Fronts.{later-calls}
 use Rattle.smc_replies.proofs.ObjectFronts.{inner-front}
-
--- there is one plan
-one-plan : {A : Type 0} (by : Result A PlanFault) (one other : A) → by ≡ Ok one → by ≡ Ok other → one ≡ other
-one-plan by one other is also = cc
 
 pub deletes-one : (shape : Layout) (table : Word) (coll : ℕ) (filter : CondTree) (first other rest behind : List CallEnd) (text said : List ℕ) → DeletesWhere shape table coll filter first text
     → DeletesWhere shape table coll filter other said → first ++ rest ≡ other ++ behind → IsOneReply rest behind text said

@@ -4,4 +4,5 @@ pub mod PackFronts
 pub mod ObjectFronts
 pub mod LoadFronts
 pub mod EditFronts
+pub mod QueryFronts
 pub mod PartLaws

@@ -12,7 +12,7 @@ use Rattle.smc_script.specs.declared.script.Place.{Place}
 use Rattle.smc_load.specs.Files.{LoadsFound, Told}
 use Rattle.smc_load.specs.Loading.{Entries}
 use Rattle.smc_load.specs.Texts.{BeginsWith, LoadsRows}
-use Rattle.smc_replies.specs.Books.{Books}
+use Rattle.smc_replies.specs.Books.{Books, KnowsSame}
 use Rattle.smc_replies.specs.Loads.{LoadsBy, loaded_line}
 use Rattle.smc_replies.proofs.Replied.{IsOneReply}
 use Rattle.smc_replies.proofs.ObjectFronts.{given, rows-front}
@@ -59,12 +59,12 @@ found-front files file schema table coll count number a b c d first other rest b
     (one.2.are.0 ∙ many ∙ sym two.2.are.0, many-front schema table coll rows others a b c d first other rest behind many one.2.loads two.2.loads same)
 
 pub loads-one : (told : Told) (by : Option Schema) (place : Place) (file : Word) (old new before after : Books) (first other rest behind : List CallEnd) (text said : List ℕ)
-    → IfNone told ⊥ → old.names ≡ before.names → LoadsBy by told place file old new first text → LoadsBy by told place file before after other said → first ++ rest ≡ other ++ behind
-    → IsOneReply rest behind text said × (new.names ≡ after.names)
+    → IfNone told ⊥ → KnowsSame old before → LoadsBy by told place file old new first text → LoadsBy by told place file before after other said → first ++ rest ≡ other ++ behind
+    → IsOneReply rest behind text said × KnowsSame new after
 loads-one None by place file old new before after first other rest behind text said tells are one two same = absurd tells
 loads-one (Some files) None place file old new before after first other rest behind text said tells are one two same = absurd one
 loads-one (Some files) (Some schema) place file old new before after first other rest behind text said tells are one two same =
     let read = found-front files file schema place.table place.coll one.count two.count old.keys new.keys before.keys after.keys first other rest behind one.loads two.loads same in (
       (read.1, one.reply ∙ ap (loaded_line schema.name) read.0 ∙ sym two.reply),
-      one.names ∙ are ∙ sym two.names,
+      record { names = one.same.names ∙ are.names ∙ sym two.same.names; folds = one.same.folds ∙ are.folds ∙ sym two.same.folds },
     )

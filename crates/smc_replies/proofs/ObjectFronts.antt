@@ -23,7 +23,7 @@ use Rattle.smc_types.specs.Rows.{row_of}
 use Rattle.smc_tbl.specs.Printed.{PrintsRow, PrintsValue}
 use Rattle.smc_tbl.specs.declared.bytes.TheConstants.{BAR}
 use Rattle.smc_script.specs.declared.script.Place.{Place}
-use Rattle.smc_replies.specs.Books.{Books, Named, with_name}
+use Rattle.smc_replies.specs.Books.{Books, KnowsSame, Named, with_name}
 use Rattle.smc_replies.specs.Objects.{AddsBy, GetsBy, OnObject, PrintsObject, RemovesNamed, SetsBy, found_line}
 use Rattle.smc_replies.proofs.Replied.{IsOneReply}
 use Rattle.smc_replies.proofs.Fronts.{first-done, first-event, later-calls}
@@ -260,17 +260,23 @@ same-names name a b names others new after are is one two =
     one ∙ ap (λ (x : Option Number). with_name name x names) is ∙ ap (λ (x : List Named). with_name name b x) are ∙ sym two
 
 pub adds-one : (schema : Option Schema) (place : Place) (name : Word) (row : List Value) (old new before after : Books) (first other rest behind : List CallEnd) (text said : List ℕ)
-    → old.names ≡ before.names → AddsBy schema place name row old new first text → AddsBy schema place name row before after other said → first ++ rest ≡ other ++ behind
-    → IsOneReply rest behind text said × (new.names ≡ after.names)
+    → KnowsSame old before → AddsBy schema place name row old new first text → AddsBy schema place name row before after other said → first ++ rest ≡ other ++ behind
+    → IsOneReply rest behind text said × KnowsSame new after
 adds-one None place name row old new before after first other rest behind text said are one two same = absurd one
 adds-one (Some schema) place name row old new before after first other rest behind text said are (inl one) (inl two) same =
     let read = rows-front _ _ _ _ (Ok one.loads.number) (Ok two.loads.number) first other rest behind one.loads.adds two.loads.adds same in (
       (read.1, one.reply ∙ sym two.reply),
-      same-names name (Some one.loads.number) (Some two.loads.number) old.names before.names new.names after.names are (ap (λ (n : Number). Some n) read.0) one.names two.names,
+      record {
+        names = same-names name (Some one.loads.number) (Some two.loads.number) old.names before.names new.names after.names are.names (ap (λ (n : Number). Some n) read.0) one.names two.names;
+        folds = one.folds ∙ are.folds ∙ sym two.folds;
+      },
     )
 adds-one (Some schema) place name row old new before after first other rest behind text said are (inr one) (inr two) same =
     let read = rows-front _ _ _ _ (Err one.refuses.cause) (Err two.refuses.cause) first other rest behind one.refuses.adds two.refuses.adds same in
-    ((read.1, one.reply ∙ sym two.reply), same-names name None None old.names before.names new.names after.names are refl one.names two.names)
+    (
+      (read.1, one.reply ∙ sym two.reply),
+      record { names = same-names name None None old.names before.names new.names after.names are.names refl one.names two.names; folds = one.folds ∙ are.folds ∙ sym two.folds },
+    )
 adds-one (Some schema) place name row old new before after first other rest behind text said are (inl one) (inr two) same =
     absurd (rows-front _ _ _ _ (Ok one.loads.number) (Err two.refuses.cause) first other rest behind one.loads.adds two.refuses.adds same).0
 adds-one (Some schema) place name row old new before after first other rest behind text said are (inr one) (inl two) same =

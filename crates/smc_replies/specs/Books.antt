@@ -1,10 +1,11 @@
 -- What a script knows between its commands.
-use Rattle.std.specs.Prelude.{ℕ, ◌==◌, if◌then◌else◌, List, [], map, Option, Some, None, String, string_bytes}
+use Rattle.std.specs.Prelude.{◌≡◌, ℕ, ◌==◌, if◌then◌else◌, List, [], map, Option, Some, None, String, string_bytes}
 use Rattle.std.specs.BTreeMap.{insert_entry}
 use Rattle.std.specs.Cmp.Lexicographic.{slice_cmp}
 use Rattle.std.specs.Map.{lookup}
 use Rattle.std.specs.Ordering.{is_eq, nat_cmp}
 use Rattle.smc_words.specs.declared.number.Number.{Number}
+use Rattle.smc_folds.specs.Kinds.{Kind}
 use Rattle.smc_query.specs.Trees.{Word}
 use Rattle.smc_load.specs.Loading.{Entries}
 
@@ -33,11 +34,21 @@ object_in coll _ = None
 abbrev pub object_of : List Named → ℕ → Word → Option Number
 object_of names coll name = object_in coll (named names name)
 
--- the names that were given, and the objects that are found by their keys
+-- the names of folds, in the order in which they were handed in
+abbrev pub fold_names : List Kind → List Word
+fold_names kinds = map (λ kind. kind.name) kinds
+
+-- the names that were given, the objects that are found by their keys, and the folds that may be called
 pub record Books : Type 0 where
   pub names : List Named
   pub keys : Entries
+  pub folds : List Kind
 
--- before the first command
-abbrev pub no_books : Books
-no_books = record { names = []; keys = [] }
+-- before the first command of a script that was handed these folds
+abbrev pub books_of : List Kind → Books
+books_of kinds = record { names = []; keys = []; folds = kinds }
+
+-- the same names were given, and the same folds may be called
+pub record KnowsSame (one other : Books) : Type 0 where
+  pub names : one.names ≡ other.names
+  pub folds : one.folds ≡ other.folds

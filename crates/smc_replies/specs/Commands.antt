@@ -1,5 +1,5 @@
 -- What each command does, and what it replies.
-use Rattle.std.specs.Prelude.{◌≡◌, ℕ, ◌<◌, Bool, true, false, is_none, ◌==◌, ◌&&◌, List, [], ◌∷◌, ◌++◌, length, codes, Option, Some, None}
+use Rattle.std.specs.Prelude.{◌≡◌, ℕ, ◌<◌, Bool, true, false, is_ok, List, [], ◌++◌, length, codes, Option, Some, None}
 use Rattle.std.specs.Fmt.{decimal}
 use Rattle.smc_shape.specs.Layout.{Layout, width_of}
 use Rattle.smc_trace.specs.Trace.{CallEnd}
@@ -11,16 +11,17 @@ use Rattle.smc_compact.specs.declared.packing.Packed.{Packed}
 use Rattle.smc_compact.specs.Packs.{Packs}
 use Rattle.smc_types.specs.Tables.{the_tables}
 use Rattle.smc_types.specs.declared.schema.Schema.{Schema}
-use Rattle.smc_query.specs.Trees as trees
-use Rattle.smc_query.specs.Trees.{CallTree, ItemTree, QueryTree, Word}
+use Rattle.smc_query.specs.Trees.{Word}
 use Rattle.smc_types.specs.Columns.{columns_width}
 use Rattle.smc_script.specs.Sound.{FitsColumn, FitsTable}
 use Rattle.smc_script.specs.Tables.{schema_of}
-use Rattle.smc_script.specs.Trees.{CommandTree, load, add, compact, get, query, remove, set, stat}
+use Rattle.smc_script.specs.Trees.{CommandTree, load, add, compact, delete, get, query, remove, set, stat, update}
 use Rattle.smc_script.specs.declared.script.Place.{Place}
 use Rattle.smc_load.specs.declared.fault.LoadFault.{LoadFault}
 use Rattle.smc_replies.specs.Books.{Books, object_of}
 use Rattle.smc_replies.specs.Loads.{Scene, LoadsBy, StopsBy}
+use Rattle.smc_replies.specs.Edits.{DeletesWhere, UpdatesWhere, delete_plan, update_plan}
+use Rattle.smc_replies.specs.Queries.{AnswersQuery, query_plan}
 use Rattle.smc_replies.specs.Objects.{AddsBy, GetsBy, OnObject, RemovesNamed, SetsBy}
 use Rattle.smc_replies.specs.declared.limits.TheConstants.{COMPACT_TURNS}
 
@@ -30,29 +31,11 @@ use Rattle.smc_replies.specs.declared.limits.TheConstants.{COMPACT_TURNS}
 abbrev pub objects_line : ℕ → List ℕ
 objects_line count = codes "objects " ++ decimal count ++ codes "\n"
 
--- an answer of one row, which says how many rows the query has met
-abbrev pub count_row : ℕ → List ℕ
-count_row count = codes "rows 1\n" ++ decimal count ++ codes "\n"
-
 -- one scan of the collection, in a section of its own, counts its objects, and this is said of their number
 pub record Counts (said : ℕ → List ℕ) (coll : ℕ) (calls : List CallEnd) (text : List ℕ) : Type 0 where
   pub count : ℕ
   pub counts : InSection (CountsObjects coll count) calls
   pub reply : text ≡ said count
-
--- whether a column counts rows
-abbrev pub is_count : CallTree → Bool
-is_count trees.count = true
-is_count call = false
-
--- whether `count()`, without a label, is the only column
-abbrev pub shows_count : List ItemTree → Bool
-shows_count (item ∷ []) = is_count item.call && is_none item.label
-shows_count items = false
-
--- whether the query asks how many rows its table has, and for nothing else
-abbrev pub counts_all : QueryTree → Bool
-counts_all tree = is_none tree.filter && (length tree.by == 0) && shows_count tree.items && (length tree.sort == 0) && is_none tree.first
 
 -- ---- packing
 
@@ -89,21 +72,19 @@ pub record PacksTable (place : Place) (calls : List CallEnd) (text : List ℕ) :
 
 -- ---- commands
 
--- the query asks how many rows its table has, and is answered by counting its objects
-abbrev pub AnswersCount : Place → QueryTree → List CallEnd → List ℕ → Type 0
-AnswersCount place tree calls text = (counts_all tree ≡ true) × Counts count_row place.coll calls text
-
--- the commands that are run; a script that has another one is refused at its line, as one with a line that is no command
-abbrev pub is_known : CommandTree → Bool
-is_known (load place file) = true
-is_known (stat place) = true
-is_known (query place tree) = counts_all tree
-is_known (compact place) = true
-is_known (add place name row) = true
-is_known (get place name) = true
-is_known (set place name column value) = true
-is_known (remove place name) = true
-is_known _ = false
+-- the commands that are run where the script was read with folds of these names, queries and edits where they have a plan; a script that has another one is refused at its line
+abbrev pub is_known : List Word → CommandTree → Bool
+is_known folds (load place file) = true
+is_known folds (stat place) = true
+is_known folds (query place tree) = is_ok (query_plan folds tree)
+is_known folds (compact place) = true
+is_known folds (add place name row) = true
+is_known folds (get place name) = true
+is_known folds (set place name column value) = true
+is_known folds (remove place name) = true
+is_known folds (delete place filter) = is_ok (delete_plan (table_name place.table) filter)
+is_known folds (update place column value filter) = is_ok (update_plan (table_name place.table) column value filter)
+is_known folds _ = false
 
 -- ---- what a command needs
 
@@ -118,17 +99,19 @@ pub record IsTableOf (shape : Layout) (place : Place) : Type 0 where
   pub coll : IsCollOf shape place
   pub width : columns_width schema.columns ≡ width_of shape place.coll
 
--- the command may be run on a region of this shape
-abbrev pub CanRun : Layout → CommandTree → Type 0
-CanRun shape (load place file) = IsTableOf shape place
-CanRun shape (stat place) = IsCollOf shape place
-CanRun shape (query place tree) = (counts_all tree ≡ true) × IsCollOf shape place
-CanRun shape (compact place) = IsCollOf shape place
-CanRun shape (add place name row) = IsTableOf shape place × FitsTable the_tables place.table row
-CanRun shape (get place name) = IsTableOf shape place
-CanRun shape (set place name column value) = IsTableOf shape place × FitsColumn the_tables place.table column value
-CanRun shape (remove place name) = IsCollOf shape place
-CanRun shape _ = ⊥
+-- the command may be run on a region of this shape, where the script was read with folds of these names
+abbrev pub CanRun : Layout → List Word → CommandTree → Type 0
+CanRun shape folds (load place file) = IsTableOf shape place
+CanRun shape folds (stat place) = IsCollOf shape place
+CanRun shape folds (query place tree) = (is_ok (query_plan folds tree) ≡ true) × IsCollOf shape place
+CanRun shape folds (compact place) = IsCollOf shape place
+CanRun shape folds (add place name row) = IsTableOf shape place × FitsTable the_tables place.table row
+CanRun shape folds (get place name) = IsTableOf shape place
+CanRun shape folds (set place name column value) = IsTableOf shape place × FitsColumn the_tables place.table column value
+CanRun shape folds (remove place name) = IsCollOf shape place
+CanRun shape folds (delete place filter) = (is_ok (delete_plan (table_name place.table) filter) ≡ true) × IsCollOf shape place
+CanRun shape folds (update place column value filter) = (is_ok (update_plan (table_name place.table) column value filter) ≡ true) × IsTableOf shape place
+CanRun shape folds _ = ⊥
 
 -- ---- what it does
 
@@ -137,23 +120,22 @@ abbrev pub is_load : CommandTree → Bool
 is_load (load place file) = true
 is_load command = false
 
--- a command that reads no file, with what was known before it and what is known after it, makes these calls, and this is its reply
-abbrev pub RunsCommand : CommandTree → Books → Books → List CallEnd → List ℕ → Type 0
-RunsCommand (stat place) old new calls text = (new ≡ old) × Counts objects_line place.coll calls text
-RunsCommand (query place tree) old new calls text = (new ≡ old) × AnswersCount place tree calls text
-RunsCommand (compact place) old new calls text = (new ≡ old) × PacksTable place calls text
-RunsCommand (add place name row) old new calls text = AddsBy (schema_of the_tables place.table) place name row old new calls text
-RunsCommand (get place name) old new calls text =
+-- in this scene a command, with what was known before it and what is known after it, makes these calls, and this is its reply
+abbrev pub RunsCommand : Scene → CommandTree → Books → Books → List CallEnd → List ℕ → Type 0
+RunsCommand scene (load place file) old new calls text = LoadsBy (schema_of the_tables place.table) scene.files place file old new calls text
+RunsCommand scene (stat place) old new calls text = (new ≡ old) × Counts objects_line place.coll calls text
+RunsCommand scene (query place tree) old new calls text = (new ≡ old) × AnswersQuery scene.shape scene.folds place.coll tree old.folds calls text
+RunsCommand scene (compact place) old new calls text = (new ≡ old) × PacksTable place calls text
+RunsCommand scene (add place name row) old new calls text = AddsBy (schema_of the_tables place.table) place name row old new calls text
+RunsCommand scene (get place name) old new calls text =
     (new ≡ old) × OnObject (object_of old.names place.coll name) (GetsBy (schema_of the_tables place.table)) calls text
-RunsCommand (set place name column value) old new calls text =
+RunsCommand scene (set place name column value) old new calls text =
     (new ≡ old) × OnObject (object_of old.names place.coll name) (SetsBy (schema_of the_tables place.table) column value) calls text
-RunsCommand (remove place name) old new calls text = (new ≡ old) × OnObject (object_of old.names place.coll name) RemovesNamed calls text
-RunsCommand _ old new calls text = ⊥
-
--- the same of any command, over the files of its scene
-abbrev pub RunsIn : Scene → CommandTree → Books → Books → List CallEnd → List ℕ → Type 0
-RunsIn scene (load place file) old new calls text = LoadsBy (schema_of the_tables place.table) scene.files place file old new calls text
-RunsIn scene command old new calls text = RunsCommand command old new calls text
+RunsCommand scene (remove place name) old new calls text = (new ≡ old) × OnObject (object_of old.names place.coll name) RemovesNamed calls text
+RunsCommand scene (delete place filter) old new calls text = (new ≡ old) × DeletesWhere scene.shape (table_name place.table) place.coll filter calls text
+RunsCommand scene (update place column value filter) old new calls text =
+    (new ≡ old) × UpdatesWhere scene.shape (table_name place.table) place.coll column value filter calls text
+RunsCommand scene _ old new calls text = ⊥
 
 -- the command is a load of this file, which stops at the fault behind these calls
 abbrev pub StopsIn : Scene → Word → LoadFault → CommandTree → Books → List CallEnd → Type 0

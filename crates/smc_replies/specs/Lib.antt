@@ -2,6 +2,7 @@ pub mod Books
 pub mod Objects
 pub mod Loads
 pub mod Edits
+pub mod Queries
 pub mod Commands
 pub mod Scripts
 pub mod Laws

@@ -39,6 +39,7 @@ words_of schema row = row_words (value_kinds schema.columns) row
 pub record AddsObject (schema : Schema) (place : Place) (name : Word) (row : List Value) (old new : Books) (calls : List CallEnd) (text : List ℕ) : Type 0 where
   pub loads : LoadsRow schema place.table place.coll old.keys new.keys (words_of schema row) calls
   pub names : new.names ≡ with_name name (Some loads.number) old.names
+  pub folds : new.folds ≡ old.folds
   pub reply : text ≡ add_line (Some loads.number) name
 
 -- both tries to add it are refused, and none stands under the name
@@ -46,6 +47,7 @@ pub record FindsFull (schema : Schema) (place : Place) (name : Word) (row : List
   pub refuses : RefusesRow schema place.coll old.keys (words_of schema row) calls
   pub keys : new.keys ≡ old.keys
   pub names : new.names ≡ with_name name None old.names
+  pub folds : new.folds ≡ old.folds
   pub reply : text ≡ add_line None name
 
 -- a row is added by the columns of its table

@@ -7,7 +7,7 @@ use Rattle.smc_load.specs.declared.fault.LoadFault.{LoadFault}
 use Rattle.smc_script.specs.Trees.{NumberedTree, PartTree, one, group}
 use Rattle.smc_replies.specs.Books.{Books}
 use Rattle.smc_replies.specs.Loads.{Scene}
-use Rattle.smc_replies.specs.Commands.{CanRun, RunsIn, StopsIn, is_known}
+use Rattle.smc_replies.specs.Commands.{CanRun, RunsCommand, StopsIn, is_known}
 
 -- the line of the first command of these
 abbrev pub first_line : List NumberedTree → ℕ
@@ -21,23 +21,23 @@ line_of (group []) = 0
 line_of (group (worker ∷ later)) = first_line worker
 
 -- the parts that are run: a group is refused as a command is that is not
-abbrev pub is_known_part : PartTree → Bool
-is_known_part (one numbered) = is_known numbered.command
-is_known_part (group workers) = false
+abbrev pub is_known_part : List Word → PartTree → Bool
+is_known_part folds (one numbered) = is_known folds numbered.command
+is_known_part folds (group workers) = false
 
 -- the line at which the first part that is not run begins
-abbrev pub unknown_line : List PartTree → Option ℕ
-unknown_line [] = None
-unknown_line (part ∷ later) = if is_known_part part then unknown_line later else Some (line_of part)
+abbrev pub unknown_line : List Word → List PartTree → Option ℕ
+unknown_line folds [] = None
+unknown_line folds (part ∷ later) = if is_known_part folds part then unknown_line folds later else Some (line_of part)
 
--- the part may be run on a region of this shape
-abbrev pub CanRunPart : Layout → PartTree → Type 0
-CanRunPart shape (one numbered) = CanRun shape numbered.command
-CanRunPart shape (group workers) = ⊥
+-- the part may be run on a region of this shape, where the script was read with folds of these names
+abbrev pub CanRunPart : Layout → List Word → PartTree → Type 0
+CanRunPart shape folds (one numbered) = CanRun shape folds numbered.command
+CanRunPart shape folds (group workers) = ⊥
 
 -- in this scene a part, with what was known before it and what is known after it, makes these calls, and this is its reply
 abbrev pub RunsPart : Scene → PartTree → Books → Books → List CallEnd → List ℕ → Type 0
-RunsPart scene (one numbered) old new calls text = RunsIn scene numbered.command old new calls text
+RunsPart scene (one numbered) old new calls text = RunsCommand scene numbered.command old new calls text
 RunsPart scene (group workers) old new calls text = ⊥
 
 -- parts that are run one behind another: their calls and their replies in one list

@@ -1,5 +1,7 @@
 //! Each function is a theorem over the definitions in `specs`, and does nothing.
-ghost use Rattle.smc_replies.specs.Books.{no_books};
+ghost use Rattle.std.specs.Prelude.{List};
+ghost use Rattle.smc_folds.specs.Kinds.{Kind};
+ghost use Rattle.smc_replies.specs.Books.{books_of};
 ghost use Rattle.smc_replies.specs.Loads.{Scene};
 ghost use Rattle.smc_replies.specs.Laws.{CommandIsOne, OnePartMore, TextIsOne};
 ghost use Rattle.smc_replies.specs.Scripts.{RunsParts};
@@ -7,8 +9,8 @@ ghost use Rattle.smc_replies.specs.Worked.{its_calls, its_text, one_query, their
 
 use smc_types::laws::a_day_has_one_text;
 
-/// The calls of a command are read off from the front of a trace; its reply, and the names behind it, follow from them and
-/// from the names before it.
+/// The calls of a command are read off from the front of a trace; its reply, and the names and folds behind it, follow from
+/// them and from those before it.
 pub fn parts_are_one()
     ensures { CommandIsOne }
 {
@@ -16,7 +18,7 @@ pub fn parts_are_one()
     a_day_has_one_text();
 }
 
-/// What parts print follows from the calls that they made, and from the names that were given before.
+/// What parts print follows from the calls that they made, and from the names and folds that were known before.
 pub fn the_text_is_one()
     ensures { TextIsOne }
 {
@@ -30,10 +32,10 @@ pub fn one_part_more()
 
 /// Two commands over two objects print how many objects there are.
 pub fn worked_stats()
-    ensures { (scene : Scene) → RunsParts scene two_stats no_books no_books their_calls their_text }
+    ensures { (scene : Scene) (kinds : List Kind) → RunsParts scene two_stats (books_of kinds) (books_of kinds) their_calls their_text }
 {}
 
 /// A query for their number prints it as a row.
 pub fn worked_query()
-    ensures { (scene : Scene) → RunsParts scene one_query no_books no_books its_calls its_text }
+    ensures { (scene : Scene) (kinds : List Kind) → RunsParts scene one_query (books_of kinds) (books_of kinds) its_calls its_text }
 {}

@@ -14,6 +14,7 @@ use Rattle.smc_region.specs.Ends.{Ended}
 use Rattle.smc_trace.specs.Trace.{CallEnd}
 use Rattle.smc_history.specs.Happened.{WhatHappenedIsLawful}
 use Rattle.smc_replies.specs.Loads.{Scene}
+use Rattle.smc_folds.specs.Kinds.{Kind}
 use Rattle.smc_query.specs.Trees.{Word}
 use Rattle.smc_types.specs.Tables.{the_tables}
 use Rattle.smc_types.specs.declared.catalog.Catalog.{Catalog}
@@ -22,13 +23,14 @@ use Rattle.smc_script.specs.Scripts.{Answers, TextGives}
 use Rattle.smc_script.specs.Sound.{EachCommand, IsFit, IsPlaced, IsPlacedAmong, IsRoomPlace, Opens, coll_of_room}
 use Rattle.smc_script.specs.Tables.{schema_of, table_width, width_by}
 use Rattle.smc_script.specs.declared.script.Place.{Place}
-use Rattle.smc_script.specs.Trees.{CommandTree, PartTree, ScriptTree, add, compact, get, load, one, group, query, remove, set, stat}
+use Rattle.smc_script.specs.Trees.{CommandTree, PartTree, ScriptTree, add, compact, delete, get, load, one, group, query, remove, set, stat, update}
 use Rattle.smc_script.specs.declared.fault.ScriptFault.{ScriptFault}
 use Rattle.smc_script.specs.declared.fault.ScriptFault.TheVariants.{Bad}
 use Rattle.smc_script.specs.declared.fault.ScriptFault.TheVariants as fault
 use Rattle.smc_script.specs.declared.fault.ScriptKind.{ScriptKind}
 use Rattle.smc_script.specs.declared.script.Room.{Room}
 use Rattle.smc_load.specs.Files.{Told}
+use Rattle.smc_replies.specs.Books.{fold_names}
 use Rattle.smc_replies.specs.Commands.{CanRun, IsCollOf, IsTableOf, is_known}
 use Rattle.smc_replies.specs.Scripts.{CanRunPart, is_known_part, line_of, unknown_line}
 use Rattle.smc_desk.specs.declared.alone.RunEnd.{RunEnd}
@@ -122,30 +124,32 @@ no-line : (line : ℕ) → Some line ≡ None → ⊥
 no-line line is = cc
 
 -- a part that is known, placed in a room, and fit for its table may be run
-part-may : (rooms : List Room) (part : PartTree) → MayOpen rooms → IsPlaced rooms part → EachCommand (IsFit the_tables) part → is_known_part part ≡ true → CanRunPart (shape_asked rooms) part
-part-may rooms (one numbered) opens placed fits known = go numbered.command placed fits known
+part-may : (folds : List Word) (rooms : List Room) (part : PartTree) → MayOpen rooms → IsPlaced rooms part → EachCommand (IsFit the_tables) part → is_known_part folds part ≡ true → CanRunPart (shape_asked rooms) folds part
+part-may folds rooms (one numbered) opens placed fits known = go numbered.command placed fits known
   where
-    go : (c : CommandTree) → IsPlacedAmong rooms c → IsFit the_tables c → is_known c ≡ true → CanRun (shape_asked rooms) c
+    go : (c : CommandTree) → IsPlacedAmong rooms c → IsFit the_tables c → is_known folds c ≡ true → CanRun (shape_asked rooms) folds c
     go (load place file) placed fits known = table-of rooms place opens placed
     go (stat place) placed fits known = coll-of rooms place placed
     go (compact place) placed fits known = coll-of rooms place placed
     go (query place tree) placed fits known = (known, coll-of rooms place placed)
+    go (delete place filter) placed fits known = (known, coll-of rooms place placed)
+    go (update place column value filter) placed fits known = (known, table-of rooms place opens placed)
     go (add place name row) placed fits known = (table-of rooms place opens placed, fits)
     go (get place name) placed fits known = table-of rooms place opens placed
     go (set place name column value) placed fits known = (table-of rooms place opens placed, fits)
     go (remove place name) placed fits known = coll-of rooms place placed
     go _ placed fits known = absurd (no-test known)
-part-may rooms (group workers) opens placed fits known = absurd (no-test known)
+part-may folds rooms (group workers) opens placed fits known = absurd (no-test known)
 
 -- so may all parts of a script without a command that is not run
-pub all-may : (rooms : List Room) (parts : List PartTree) → MayOpen rooms → AllByRecursion (IsPlaced rooms) parts → AllByRecursion (EachCommand (IsFit the_tables)) parts → unknown_line parts ≡ None
-    → AllByRecursion (CanRunPart (shape_asked rooms)) parts
-all-may rooms [] opens all fits none = tt
-all-may rooms (part ∷ later) opens all fits none = go (is_known_part part) refl none (λ rest. all-may rooms later opens all.1 fits.1 rest)
+pub all-may : (folds : List Word) (rooms : List Room) (parts : List PartTree) → MayOpen rooms → AllByRecursion (IsPlaced rooms) parts → AllByRecursion (EachCommand (IsFit the_tables)) parts → unknown_line folds parts ≡ None
+    → AllByRecursion (CanRunPart (shape_asked rooms) folds) parts
+all-may folds rooms [] opens all fits none = tt
+all-may folds rooms (part ∷ later) opens all fits none = go (is_known_part folds part) refl none (λ rest. all-may folds rooms later opens all.1 fits.1 rest)
   where
-    go : (known : Bool) → is_known_part part ≡ known → (if known then unknown_line later else Some (line_of part)) ≡ None
-        → (unknown_line later ≡ None → AllByRecursion (CanRunPart (shape_asked rooms)) later) → AllByRecursion (CanRunPart (shape_asked rooms)) (part ∷ later)
-    go true is none rest = (part-may rooms part opens all.0 fits.0 is, rest none)
+    go : (known : Bool) → is_known_part folds part ≡ known → (if known then unknown_line folds later else Some (line_of part)) ≡ None
+        → (unknown_line folds later ≡ None → AllByRecursion (CanRunPart (shape_asked rooms) folds) later) → AllByRecursion (CanRunPart (shape_asked rooms) folds) (part ∷ later)
+    go true is none rest = (part-may folds rooms part opens all.0 fits.0 is, rest none)
     go false is none rest = absurd (no-line (line_of part) none)
 
 -- ---- after it
@@ -157,60 +161,61 @@ lawful-closes law [] (Some quiet) calls closes = absurd closes
 lawful-closes law (room ∷ later) (Some quiet) calls closes = law quiet.shape quiet.opening quiet.words quiet.locals closes.reached
 
 -- so has that of a script, however its running ends
-pub lawful-run : WhatHappenedIsLawful → (status : RunEnd) (scene : Scene) (rooms : List Room) (parts : List PartTree) (quiet : Option Ended) (before after : Option (List ℕ))
-    → RunsAs (Closes rooms) scene status parts quiet before after → IfSome quiet IsLawful
-lawful-run law end.Done scene rooms parts quiet before after runs = lawful-closes law rooms quiet runs.0 runs.2
-lawful-run law end.WriteFault scene rooms parts quiet before after runs = lawful-closes law rooms quiet runs.0 runs.2
-lawful-run law end.NoMemory scene rooms parts quiet before after runs = subst (λ (q : Option Ended). IfSome q IsLawful) (sym runs.2) tt
-lawful-run law (end.NoFile name) scene rooms parts quiet before after runs = lawful-closes law rooms quiet runs.0 runs.2
-lawful-run law (end.BadTable name line) scene rooms parts quiet before after runs = lawful-closes law rooms quiet runs.0 runs.2
-lawful-run law (end.TableFull name line) scene rooms parts quiet before after runs = lawful-closes law rooms quiet runs.0 runs.2
-lawful-run law end.ReadFault scene rooms parts quiet before after runs = lawful-closes law rooms quiet runs.0 runs.2
+pub lawful-run : WhatHappenedIsLawful → (status : RunEnd) (scene : Scene) (kinds : List Kind) (rooms : List Room) (parts : List PartTree) (quiet : Option Ended) (before after : Option (List ℕ))
+    → RunsAs (Closes rooms) scene kinds status parts quiet before after → IfSome quiet IsLawful
+lawful-run law end.Done scene kinds rooms parts quiet before after runs = lawful-closes law rooms quiet runs.0 runs.2
+lawful-run law end.WriteFault scene kinds rooms parts quiet before after runs = lawful-closes law rooms quiet runs.0 runs.2
+lawful-run law end.NoMemory scene kinds rooms parts quiet before after runs = subst (λ (q : Option Ended). IfSome q IsLawful) (sym runs.2) tt
+lawful-run law (end.NoFile name) scene kinds rooms parts quiet before after runs = lawful-closes law rooms quiet runs.0 runs.2
+lawful-run law (end.BadTable name line) scene kinds rooms parts quiet before after runs = lawful-closes law rooms quiet runs.0 runs.2
+lawful-run law (end.TableFull name line) scene kinds rooms parts quiet before after runs = lawful-closes law rooms quiet runs.0 runs.2
+lawful-run law end.ReadFault scene kinds rooms parts quiet before after runs = lawful-closes law rooms quiet runs.0 runs.2
 
 -- how a script ends that was read
-pub ends-known : (status : Status) (script : ScriptTree) (text : Option (List ℕ)) (files : Told) (quiet : Option Ended) (before after : Option (List ℕ)) → IfSome text (Spells script)
-    → (status ≡ ReadFault → IsSome quiet) → RunsKnown status files script quiet before after → RunEnds status text files quiet before after
-ends-known Done script text files quiet before after spells opened runs = (script, spells, runs)
-ends-known WriteFault script text files quiet before after spells opened runs = (script, spells, runs)
-ends-known NoMemory script text files quiet before after spells opened runs = inr (script, spells, runs)
-ends-known (NoFile name) script text files quiet before after spells opened runs = (script, spells, runs)
-ends-known (BadTable (Some name) line) script text files quiet before after spells opened runs = (script, spells, runs)
-ends-known (TableFull name line) script text files quiet before after spells opened runs = (script, spells, runs)
-ends-known ReadFault script text files None before after spells opened runs = absurd (no-test (opened refl))
-ends-known ReadFault script text files (Some quiet) before after spells opened runs = (script, spells, runs)
-ends-known (BadScript line) script None files quiet before after spells opened runs = (tt, runs.1)
-ends-known (BadScript line) script (Some text) files quiet before after spells opened runs = (inr (script, spells, runs.0), runs.1)
-ends-known _ script text files quiet before after spells opened runs = absurd runs
+pub ends-known : (status : Status) (script : ScriptTree) (text : Option (List ℕ)) (files : Told) (kinds : List Kind) (quiet : Option Ended) (before after : Option (List ℕ)) → IfSome text (Spells kinds script)
+    → (status ≡ ReadFault → IsSome quiet) → RunsKnown status files kinds script quiet before after → RunEnds status text files kinds quiet before after
+ends-known Done script text files kinds quiet before after spells opened runs = (script, spells, runs)
+ends-known WriteFault script text files kinds quiet before after spells opened runs = (script, spells, runs)
+ends-known NoMemory script text files kinds quiet before after spells opened runs = inr (script, spells, runs)
+ends-known (NoFile name) script text files kinds quiet before after spells opened runs = (script, spells, runs)
+ends-known (BadTable (Some name) line) script text files kinds quiet before after spells opened runs = (script, spells, runs)
+ends-known (TableFull name line) script text files kinds quiet before after spells opened runs = (script, spells, runs)
+ends-known ReadFault script text files kinds None before after spells opened runs = absurd (no-test (opened refl))
+ends-known ReadFault script text files kinds (Some quiet) before after spells opened runs = (script, spells, runs)
+ends-known (BadScript line) script None files kinds quiet before after spells opened runs = (tt, runs.1)
+ends-known (BadScript line) script (Some text) files kinds quiet before after spells opened runs = (inr (script, spells, runs.0), runs.1)
+ends-known _ script text files kinds quiet before after spells opened runs = absurd runs
 
 -- what was told of a text that was read to its end
-told-script : (script : ScriptTree) (text left : Option (List ℕ)) → OnTold text left (λ bytes _. TextGives the_tables [] bytes (Ok script)) → IfSome text (Spells script)
-told-script script None left told = tt
-told-script script (Some bytes) None told = absurd told
-told-script script (Some bytes) (Some rest) told = told
+told-script : (kinds : List Kind) (script : ScriptTree) (text left : Option (List ℕ)) → OnTold text left (λ bytes _. TextGives the_tables (fold_names kinds) bytes (Ok script)) → IfSome text (Spells kinds script)
+told-script kinds script None left told = tt
+told-script kinds script (Some bytes) None told = absurd told
+told-script kinds script (Some bytes) (Some rest) told = told
 
-told-refused : (line : ℕ) (kind : ScriptKind) (text left : Option (List ℕ)) → OnTold text left (λ bytes _. TextGives the_tables [] bytes (Err (Bad line kind))) → IfSome text (IsNoScriptAt line)
-told-refused line kind None left told = tt
-told-refused line kind (Some bytes) None told = absurd told
-told-refused line kind (Some bytes) (Some rest) told = inl (kind, told)
+told-refused : (kinds : List Kind) (line : ℕ) (kind : ScriptKind) (text left : Option (List ℕ)) → OnTold text left (λ bytes _. TextGives the_tables (fold_names kinds) bytes (Err (Bad line kind)))
+    → IfSome text (IsNoScriptAt kinds line)
+told-refused kinds line kind None left told = tt
+told-refused kinds line kind (Some bytes) None told = absurd told
+told-refused kinds line kind (Some bytes) (Some rest) told = inl (kind, told)
 
--- so too where the catalog is known to be that of the tables, and there are no folds
-pub told-spells : (catalog : Catalog) (folds : List Word) (script : ScriptTree) (text left : Option (List ℕ)) → catalog ≡ the_tables → folds ≡ []
-    → OnTold text left (λ bytes _. TextGives catalog folds bytes (Ok script)) → IfSome text (Spells script)
-told-spells catalog folds script text left are none told =
-    told-script script text left
-    (subst (λ (tables : Catalog). OnTold text left (λ bytes _. TextGives tables [] bytes (Ok script))) are
-    (subst (λ (names : List Word). OnTold text left (λ bytes _. TextGives catalog names bytes (Ok script))) none told))
+-- so too where the catalog is known to be that of the tables, and the folds are named
+pub told-spells : (kinds : List Kind) (catalog : Catalog) (folds : List Word) (script : ScriptTree) (text left : Option (List ℕ)) → catalog ≡ the_tables → folds ≡ fold_names kinds
+    → OnTold text left (λ bytes _. TextGives catalog folds bytes (Ok script)) → IfSome text (Spells kinds script)
+told-spells kinds catalog folds script text left are named told =
+    told-script kinds script text left
+    (subst (λ (tables : Catalog). OnTold text left (λ bytes _. TextGives tables (fold_names kinds) bytes (Ok script))) are
+    (subst (λ (names : List Word). OnTold text left (λ bytes _. TextGives catalog names bytes (Ok script))) named told))
 
 -- how it ends where no script was read
-refused-ends : (why : ScriptFault) (files : Told) (text left out : Option (List ℕ)) → Answers (Err why) (λ outcome. OnTold text left (λ bytes _. TextGives the_tables [] bytes outcome))
-    → RunEnds (refused_at why) text files None out out
-refused-ends fault.ReadFault files text left out gives = Keeps-refl out
-refused-ends (Bad line kind) files text left out gives = (told-refused line kind text left gives, (refl, Keeps-refl out))
-refused-ends fault.NoMemory files text left out gives = inl (refl, Keeps-refl out)
+refused-ends : (why : ScriptFault) (files : Told) (kinds : List Kind) (text left out : Option (List ℕ)) → Answers (Err why) (λ outcome. OnTold text left (λ bytes _. TextGives the_tables (fold_names kinds) bytes outcome))
+    → RunEnds (refused_at why) text files kinds None out out
+refused-ends fault.ReadFault files kinds text left out gives = Keeps-refl out
+refused-ends (Bad line kind) files kinds text left out gives = (told-refused kinds line kind text left gives, (refl, Keeps-refl out))
+refused-ends fault.NoMemory files kinds text left out gives = inl (refl, Keeps-refl out)
 
-pub ends-refused : (catalog : Catalog) (folds : List Word) (why : ScriptFault) (files : Told) (text left out : Option (List ℕ)) → catalog ≡ the_tables → folds ≡ []
-    → Answers (Err why) (λ outcome. OnTold text left (λ bytes _. TextGives catalog folds bytes outcome)) → RunEnds (refused_at why) text files None out out
-ends-refused catalog folds why files text left out are none gives =
-    refused-ends why files text left out
-    (subst (λ (tables : Catalog). Answers (Err why) (λ outcome. OnTold text left (λ bytes _. TextGives tables [] bytes outcome))) are
-    (subst (λ (names : List Word). Answers (Err why) (λ outcome. OnTold text left (λ bytes _. TextGives catalog names bytes outcome))) none gives))
+pub ends-refused : (catalog : Catalog) (folds : List Word) (why : ScriptFault) (files : Told) (kinds : List Kind) (text left out : Option (List ℕ)) → catalog ≡ the_tables → folds ≡ fold_names kinds
+    → Answers (Err why) (λ outcome. OnTold text left (λ bytes _. TextGives catalog folds bytes outcome)) → RunEnds (refused_at why) text files kinds None out out
+ends-refused catalog folds why files kinds text left out are named gives =
+    refused-ends why files kinds text left out
+    (subst (λ (tables : Catalog). Answers (Err why) (λ outcome. OnTold text left (λ bytes _. TextGives tables (fold_names kinds) bytes outcome))) are
+    (subst (λ (names : List Word). Answers (Err why) (λ outcome. OnTold text left (λ bytes _. TextGives catalog names bytes outcome))) named gives))

@@ -14,6 +14,7 @@ pub mod status;
 pub mod tally;
 pub mod top;
 
+use smc_folds::Bench;
 use smc_outside::{DirShelf, StdSink, StdSource};
 use status::Status;
 use std::process::ExitCode;
@@ -38,9 +39,18 @@ fn words<R: Env + AllocGlobal>(rt: &R) -> Result<Vec<String>, Status> {
 fn main(rt: HostRuntime) -> ExitCode {
     let mut input = StdSource::new(rt.reader());
     let mut shelf = DirShelf::new(rt.alloc(), &rt);
+    let mut bench = Bench::new(rt.alloc());
     let mut out = StdSink::new(io::writer(&rt));
     let status = match words(&rt) {
-        Ok(words) => top(rt.alloc(), &words, &mut input, &mut shelf, &mut out).into_status(),
+        Ok(words) => top(
+            rt.alloc(),
+            &words,
+            &mut bench,
+            &mut input,
+            &mut shelf,
+            &mut out,
+        )
+        .into_status(),
         Err(status) => status,
     };
     if !matches!(status, Status::Done) {

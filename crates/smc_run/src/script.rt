@@ -1,5 +1,5 @@
 //! The script on the input is read, and run.
-ghost use Rattle.std.specs.Prelude.{◌≡◌, ◌≢◌, ◌≤◌, IfNone, IfSome, IsSome};
+ghost use Rattle.std.specs.Prelude.{◌≡◌, ◌≢◌, ◌≤◌, IfNone, IfSome, IsSome, map};
 ghost use Rattle.smc_outside.specs.Causes.{Rose};
 ghost use Rattle.smc_types.specs.Tables.{the_tables};
 ghost use Rattle.smc_script.specs.Sound.{IsSound};
@@ -10,10 +10,11 @@ ghost use Rattle.smc_run.specs.Tally.{ReadsToEnd};
 
 use crate::ended::Ended;
 use crate::status::Status;
-use smc_desk::{Ran, RunEnd, run_alone, unknown_line};
+use smc_desk::{Ran, RunEnd, fold_names, run_alone, unknown_line};
+use smc_folds::{Bench, Fold};
 use smc_history::laws::what_happened_is_lawful;
 use smc_outside::{Shelf, Sink, Source};
-use smc_script::{FoldNames, Script, ScriptFault, read_script};
+use smc_script::{Script, ScriptFault, read_script};
 use smc_types::{Catalog, tpch};
 use std::alloc::Global;
 
@@ -51,12 +52,13 @@ fn run_known<F: Shelf, O: Sink>(
     alloc: Global,
     script: &Script,
     catalog: &Catalog,
+    bench: &mut Bench,
     shelf: &mut F,
     out: &mut O,
 ) -> Ended
     requires tables { catalog.now ≡ the_tables }
     requires sound { IsSound the_tables script.now }
-    ensures ends { RunsKnown result.status (F.files shelf.old) (script_tree script.now) result.quiet (O.held out.old) (O.held out.new) }
+    ensures ends { RunsKnown result.status (F.files shelf.old) (map (λ b. (⟦<dyn Fold as Fold>⟧ b.fold.vtable).kind b.fold.value) bench.old.boxes.items) (script_tree script.now) result.quiet (O.held out.old) (O.held out.new) }
     ensures lawful { IfSome result.quiet IsLawful }
     ensures cause { result.status ≡ Status.WriteFault → Rose (O.faults out.old) (O.faults out.new) }
     ensures later { O.faults out.old ≤ O.faults out.new }
@@ -65,10 +67,13 @@ fn run_known<F: Shelf, O: Sink>(
 {
     // Up to its closing a region has come through lawful steps.
     what_happened_is_lawful();
-    match unknown_line(script.parts.as_slice()) {
+    let Ok(unknown) = unknown_line(alloc, script.parts.as_slice(), catalog, &script.folds) else {
+        return Ended::at(Status::NoMemory);
+    };
+    match unknown {
         Some(line) => Ended::at(Status::BadScript { line }),
         None => {
-            let Ran { end, quiet } = run_alone(alloc, script, catalog, shelf, out);
+            let Ran { end, quiet } = run_alone(alloc, script, catalog, bench, shelf, out);
             Ended {
                 status: status_of_run(end),
                 quiet,
@@ -77,14 +82,15 @@ fn run_known<F: Shelf, O: Sink>(
     }
 }
 
-/// Runs the script of the input. Nothing is written before the input was read to its end.
+/// Runs the script of the input, whose folds are the boxes of the bench. Nothing is written before the input was read to its end.
 pub fn run<I: Source, F: Shelf, O: Sink>(
     alloc: Global,
+    bench: &mut Bench,
     input: &mut I,
     shelf: &mut F,
     out: &mut O,
 ) -> Ended
-    ensures ends { RunEnds result.status (I.left input.old) (F.files shelf.old) result.quiet (O.held out.old) (O.held out.new) }
+    ensures ends { RunEnds result.status (I.left input.old) (F.files shelf.old) (map (λ b. (⟦<dyn Fold as Fold>⟧ b.fold.vtable).kind b.fold.value) bench.old.boxes.items) result.quiet (O.held out.old) (O.held out.new) }
     ensures lawful { IfSome result.quiet IsLawful }
     ensures asked { result.status ≢ Status.BadWords }
     ensures read { ReadsToEnd result.status (I.left input.old) (I.left input.new) }
@@ -95,9 +101,11 @@ pub fn run<I: Source, F: Shelf, O: Sink>(
     let Ok(catalog) = tpch(alloc) else {
         return Ended::at(Status::NoMemory);
     };
-    let folds = FoldNames::of(Vec::new(alloc));
+    let Ok(folds) = fold_names(alloc, bench) else {
+        return Ended::at(Status::NoMemory);
+    };
     match read_script(alloc, input, &catalog, folds) {
-        Ok(script) => run_known(alloc, &script, &catalog, shelf, out),
+        Ok(script) => run_known(alloc, &script, &catalog, bench, shelf, out),
         Err(fault) => Ended::at(refused_at(fault)),
     }
 }

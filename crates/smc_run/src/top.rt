@@ -1,4 +1,4 @@
-ghost use Rattle.std.specs.Prelude.{◌≡◌, ◌≤◌, ◌-◌, ◌↔◌, true, false, None, IfSome, IfNone, IsSome, slice_get};
+ghost use Rattle.std.specs.Prelude.{◌≡◌, ◌≤◌, ◌-◌, ◌↔◌, true, false, None, IfSome, IfNone, IsSome, map, slice_get};
 ghost use Rattle.smc_outside.specs.Causes.{Rose};
 ghost use Rattle.smc_run.specs.Play.{PlaysAs};
 ghost use Rattle.smc_run.specs.Inputs.{IsLawful, RunEnds};
@@ -12,6 +12,7 @@ use crate::play::play;
 use crate::script;
 use crate::status::Status;
 use crate::tally::tally;
+use smc_folds::{Bench, Fold};
 use smc_outside::{Shelf, Sink, Source};
 use smc_types::{CUSTOMER, LINEITEM, NATION, ORDERS, PART, PARTSUPP, REGION, SUPPLIER};
 use std::alloc::Global;
@@ -73,10 +74,11 @@ fn asks_run(words: &[String]) -> bool
 
 /// All that the program does: what its words ask for, or `BadWords` before anything is read.
 ///
-/// Where a script with rooms was run, its region is handed back, closed with its pass, unless memory was refused.
+/// A script calls the boxes of the bench by their names. Where a script with rooms was run, its region is handed back, closed with its pass, unless memory was refused.
 pub fn top<I: Source, F: Shelf, O: Sink>(
     alloc: Global,
     words: &[String],
+    bench: &mut Bench,
     input: &mut I,
     shelf: &mut F,
     out: &mut O,
@@ -85,7 +87,7 @@ pub fn top<I: Source, F: Shelf, O: Sink>(
     ensures untouched { result.status ≡ Status.BadWords → (input.new ≡ input.old) × (out.new ≡ out.old) }
     ensures ends { IfSome (tallied words.now) (λ schema. TallyEnds schema result.status (I.left input.old) (O.held out.old) (O.held out.new)) }
     ensures played { plays words.now ≡ true → PlaysAs result.status (I.left input.old) (O.held out.old) (O.held out.new) }
-    ensures ran { runs words.now ≡ true → RunEnds result.status (I.left input.old) (F.files shelf.old) result.quiet (O.held out.old) (O.held out.new) }
+    ensures ran { runs words.now ≡ true → RunEnds result.status (I.left input.old) (F.files shelf.old) (map (λ b. (⟦<dyn Fold as Fold>⟧ b.fold.vtable).kind b.fold.value) bench.old.boxes.items) result.quiet (O.held out.old) (O.held out.new) }
     ensures lawful { IfSome result.quiet IsLawful }
     ensures quiet { runs words.now ≡ false → result.quiet ≡ None }
     ensures unread { runs words.now ≡ false → shelf.new ≡ shelf.old }
@@ -98,7 +100,7 @@ pub fn top<I: Source, F: Shelf, O: Sink>(
         return Ended::at(play(alloc, input, out));
     }
     if asks_run(words) {
-        return script::run(alloc, input, shelf, out);
+        return script::run(alloc, bench, input, shelf, out);
     }
     match table_asked(words) {
         Some(table) => Ended::at(tally(alloc, table, input, out)),
@@ -139,7 +141,8 @@ mod tests {
             files.push((name.to_string(alloc)?, bytes.as_bytes().to_vec(alloc)?))?;
         }
         let mut shelf = MemShelf::new(files, Vec::new(alloc));
-        let status = top(alloc, &list, &mut input, &mut shelf, &mut out).into_status();
+        let mut bench = Bench::new(alloc);
+        let status = top(alloc, &list, &mut bench, &mut input, &mut shelf, &mut out).into_status();
         Ok((format!(in alloc; "{status}")?, out.bytes().to_vec(alloc)?))
     }
 
@@ -231,6 +234,31 @@ mod tests {
                 "room region 64\nroom nation 64\ncompact nation\nquery from region show count()\n",
                 "smc: 0 done",
                 "packed nation objects 0 blocks 0\nrows 1\n0\n",
+            ),
+            (
+                "room region 64\nroom nation 64\nload region two.tbl\nadd nation a 1|A|0|x|\nadd nation b 2|B|2|y|\nadd nation c 3|C|2|z|\nquery from nation where nationkey < 3 by region.name show sum(nationkey) as s sort s desc\n",
+                "smc: 0 done",
+                "loaded region 2\nadded a\nadded b\nadded c\nrows 2\nASIA|2\nAFRICA|1\n",
+            ),
+            (
+                "room region 64\nload region two.tbl\nadd region a 999999999999|A||\ndelete region where name = 'ASIA'\nupdate region set regionkey = regionkey + 1\nget a\nstat region\n",
+                "smc: 0 done",
+                "loaded region 2\nadded a\ndeleted 1\nupdated 1 skipped 1\n999999999999|A||\nobjects 2\n",
+            ),
+            (
+                "room region 64\nstat region\nquery from region show sum(name)\n",
+                "smc: 2 bad script, line 3",
+                "",
+            ),
+            (
+                "room region 64\nstat region\ndelete region where name < 1\n",
+                "smc: 2 bad script, line 3",
+                "",
+            ),
+            (
+                "room region 64\nstat region\nupdate region set regionkey = 1 where no = 1\n",
+                "smc: 2 bad script, line 3",
+                "",
             ),
             (
                 "room region 64\nadd region africa 0|AFRICA|a|\nget africa\nset africa regionkey 7\nget africa\nstat region\n",

@@ -5,4 +5,5 @@ pub mod StillLaws
 pub mod FitLaws
 pub mod TakenLaws
 pub mod FrontLaws
+pub mod ReadFronts
 pub mod EditFronts

@@ -15,7 +15,8 @@ returns-then-is_empty-clause-ends g c =
     let rooms : List Room = c.args.script.now.rooms in
     let parts = map part_tree c.args.script.now.parts in
     let old = held c.args.out.now in
-    let scene = scene_of (g.F.Shelf.files c.args.shelf.now) (shape_asked rooms) in
+    let scene = scene_of (g.F.Shelf.files c.args.shelf.now) (shape_asked rooms) c.args.script.now.folds in
+    let kinds = map (λ b. (goal.Fold-dyn g (b.fold.vtable, b.fold.value)).kind b.fold.value) c.args.bench.now.boxes.items in
     let none : length rooms ≡ 0 = grind (arith, nat_tests, c.as_slice-rooms.ensures, c.is_empty.ensures, c.if-is_empty.true) in
-    subst (λ (e : RunEnd). RunsAs (Closes rooms) scene e parts c.without.result.quiet old old) (sym c.without.ensures.end)
-    (subst (λ (q : Option Ended). RunsAs (Closes rooms) scene Done parts q old old) (sym c.without.ensures.quiet) (nothing-to-run scene rooms parts old none c.requires.may))
+    subst (λ (e : RunEnd). RunsAs (Closes rooms) scene kinds e parts c.without.result.quiet old old) (sym c.without.ensures.end)
+    (subst (λ (q : Option Ended). RunsAs (Closes rooms) scene kinds Done parts q old old) (sym c.without.ensures.quiet) (nothing-to-run scene kinds c.args.script.now.folds rooms parts old none c.requires.may))

@@ -5,4 +5,4 @@ use Rattle.smc_desk.proofs.known.unknown_line.Given as goal
 
 -- the parts before this one are run
 abbrev pub invariant-loop-part : goal.invariant-loop-part
-invariant-loop-part l = unknown_line (map part_tree l.parts) ≡ unknown_line (map part_tree (drop l.part-index l.parts))
+invariant-loop-part l = unknown_line l.folds (map part_tree l.parts) ≡ unknown_line l.folds (map part_tree (drop l.part-index l.parts))

@@ -6,7 +6,7 @@ use Rattle.smc_replies.proofs.laws.worked_stats.Goals as goal
 
 pub returns : goal.returns
 unfolding digits
-returns c scene = (
+returns c scene kinds = (
   _,
   _,
   _,
