@@ -39,7 +39,12 @@ fn line_of(part: &Part) -> u64
 ///
 /// # Errors
 /// Memory was refused for a plan.
-pub fn is_known(alloc: Global, c: &Command, catalog: &Catalog, folds: &FoldNames) -> Result<bool, NoMemory>
+pub fn is_known(
+    alloc: Global,
+    c: &Command,
+    catalog: &Catalog,
+    folds: &FoldNames,
+) -> Result<bool, NoMemory>
     requires tables { catalog.now ≡ the_tables }
     ensures { IfOk result (λ known. known ≡ is_known folds.now (command_tree c.now)) }
 {
@@ -60,7 +65,12 @@ pub fn is_known(alloc: Global, c: &Command, catalog: &Catalog, folds: &FoldNames
 }
 
 // Whether a part is run.
-fn is_known_part(alloc: Global, part: &Part, catalog: &Catalog, folds: &FoldNames) -> Result<bool, NoMemory>
+fn is_known_part(
+    alloc: Global,
+    part: &Part,
+    catalog: &Catalog,
+    folds: &FoldNames,
+) -> Result<bool, NoMemory>
     requires tables { catalog.now ≡ the_tables }
     ensures { IfOk result (λ known. known ≡ is_known_part folds.now (part_tree part.now)) }
 {

@@ -31,7 +31,12 @@ fn fold_words(alloc: Global, folds: &[FoldName]) -> Result<Vec<&str>, NoMemory>
 }
 
 /// Whether a query has a plan, where these folds may be called.
-pub(crate) fn can_query(alloc: Global, query: &Query, catalog: &Catalog, folds: &FoldNames) -> Result<bool, NoMemory>
+pub(crate) fn can_query(
+    alloc: Global,
+    query: &Query,
+    catalog: &Catalog,
+    folds: &FoldNames,
+) -> Result<bool, NoMemory>
     requires tables { catalog.now ≡ the_tables }
     ensures { IfOk result (λ can. can ≡ is_ok (query_plan folds.now (query_tree query.now))) }
 {

@@ -272,8 +272,7 @@ adds-one (Some schema) place name row old new before after first other rest behi
       },
     )
 adds-one (Some schema) place name row old new before after first other rest behind text said are (inr one) (inr two) same =
-    let read = rows-front _ _ _ _ (Err one.refuses.cause) (Err two.refuses.cause) first other rest behind one.refuses.adds two.refuses.adds same in
-    (
+    let read = rows-front _ _ _ _ (Err one.refuses.cause) (Err two.refuses.cause) first other rest behind one.refuses.adds two.refuses.adds same in (
       (read.1, one.reply ∙ sym two.reply),
       record { names = same-names name None None old.names before.names new.names after.names are.names refl one.names two.names; folds = one.folds ∙ are.folds ∙ sym two.folds },
     )
