@@ -1,5 +1,5 @@
 -- The field that an edit writes stands within its record.
-use Rattle.std.proofs.Common.{◌≡◌, ℕ, ◌+◌, ◌<◌, ◌≤◌, Bool, true, false, List, [], ◌∷◌, Option, Some, None, Result, Ok, Err, refl, sym, ap, ◌∙◌, subst, arith}
+use Rattle.std.proofs.Common.{◌≡◌, ℕ, ◌+◌, ◌<◌, ◌≤◌, false, [], ◌∷◌, Option, Some, None, Ok, refl, ap, ◌∙◌, subst, arith}
 use Rattle.smc_query.specs.Trees.{CondTree, ExprTree, Word}
 use Rattle.smc_types.specs.Columns.{is_reference, width_of}
 use Rattle.smc_types.specs.declared.catalog.Catalog.{Catalog}
@@ -12,7 +12,6 @@ use Rattle.smc_plan.specs.Leaves.{leaf_at, leaf_of}
 use Rattle.smc_plan.specs.Planned.{planned_filter, table_or_fault, with_leaves}
 use Rattle.smc_plan.specs.Planning.{Made, given, made}
 use Rattle.smc_plan.specs.Tables.{field_named, table_named}
-use Rattle.smc_plan.specs.declared.fault.PlanFault.{PlanFault}
 use Rattle.smc_plan.specs.declared.table.Field.{Field}
 use Rattle.smc_plan.proofs.GrowLaws.{and_then-Ok, behind-typed, behind-value}
 use Rattle.smc_visits.specs.Rows.{FitsRecord}

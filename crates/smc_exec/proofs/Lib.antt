@@ -1,4 +1,3 @@
 pub mod PlacedLaws
 pub mod FieldLaws
 pub mod QueryLaws
-pub mod PlainLaws

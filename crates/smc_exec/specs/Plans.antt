@@ -1,12 +1,11 @@
 -- Plans that the planner made, and what can be relied on where they are run.
-use Rattle.std.specs.Prelude.{◌≡◌, ◌<◌, List, [], Option, Ok}
+use Rattle.std.specs.Prelude.{◌≡◌, ◌<◌, List, Option, Ok}
 use Rattle.std.specs.List.{AllByRecursion}
 use Rattle.smc_query.specs.Trees.{CondTree, ExprTree, QueryTree, Word}
 use Rattle.smc_types.specs.declared.catalog.Catalog.{Catalog}
 use Rattle.smc_plan.specs.Edits.{PlannedEdit, planned_edit}
 use Rattle.smc_plan.specs.Kinds.{IsEdit, IsPlan}
 use Rattle.smc_plan.specs.Planned.{Planned, planned}
-use Rattle.smc_meaning.specs.Answers.{IsPlain}
 use Rattle.smc_visits.specs.Rows.{FitsRecord}
 
 -- ---- queries
@@ -26,10 +25,6 @@ pub record CanRun (plan : Planned) : Type 0 where
 -- the plan of each query is so
 abbrev pub QueriesCanRun : Type 0
 QueriesCanRun = (plan : Planned) → IsPlanned plan → CanRun plan
-
--- the plan of a query where there are no folds has none
-abbrev pub QueriesArePlain : Type 0
-QueriesArePlain = (catalog : Catalog) (query : QueryTree) (plan : Planned) → planned catalog [] query ≡ Ok plan → IsPlain plan
 
 -- ---- edits
 

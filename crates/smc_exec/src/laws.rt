@@ -1,5 +1,5 @@
 //! What holds of plans that are run, as theorems over the definitions: functions with no body, whose clauses are the laws.
-ghost use Rattle.smc_exec.specs.Plans.{EditsCanRun, QueriesArePlain, QueriesCanRun};
+ghost use Rattle.smc_exec.specs.Plans.{EditsCanRun, QueriesCanRun};
 
 use smc_plan::laws::parts_are_typed;
 
@@ -9,11 +9,6 @@ pub fn queries_can_run()
 {
     parts_are_typed();
 }
-
-/// The plan of a query where there are no folds has none.
-pub fn queries_are_plain()
-    ensures { QueriesArePlain }
-{}
 
 /// The leaves of the plan of an edit can be read, its parts are what they are said to be, and its field stands within the record.
 pub fn edits_can_run()

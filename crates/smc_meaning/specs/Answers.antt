@@ -1,10 +1,8 @@
 -- The answer of a plan over rows.
-use Rattle.std.specs.Prelude.{◌≡◌, ℕ, true, List, [], ◌∷◌, ◌++◌, map, Option, Some}
-use Rattle.std.specs.List.{AllByRecursion}
+use Rattle.std.specs.Prelude.{ℕ, List, [], ◌∷◌, ◌++◌, map, Option, Some}
 use Rattle.smc_folds.specs.Kinds as folds
-use Rattle.smc_plan.specs.Outputs.{OutputTree}
 use Rattle.smc_plan.specs.Planned.{Planned}
-use Rattle.smc_meaning.specs.Groups.{groups, is_plain, key_of, shown}
+use Rattle.smc_meaning.specs.Groups.{groups, key_of, shown}
 use Rattle.smc_meaning.specs.Kept.{kept_rows}
 use Rattle.smc_meaning.specs.Orders.{ordered}
 use Rattle.smc_meaning.specs.Values.{Cell}
@@ -28,13 +26,3 @@ columns_of plan kinds group = map Some (group_key plan group) ++ map (λ item. s
 abbrev pub answer_of : Planned → List folds.Kind → List (List ℕ) → List Columns
 answer_of plan kinds rows =
     ordered plan.sort plan.first (map (columns_of plan kinds) (groups plan (kept_rows plan rows)))
-
--- ---- plans without folds
-
--- no output column is a fold
-abbrev pub ArePlain : List OutputTree → Type 0
-ArePlain items = AllByRecursion (λ item. is_plain item ≡ true) items
-
--- a plan has no fold
-abbrev pub IsPlain : Planned → Type 0
-IsPlain plan = ArePlain plan.items

@@ -1,5 +1,5 @@
 -- The groups of rows, and what is made of the rows of a group.
-use Rattle.std.specs.Prelude.{ℕ, suc, ◌+◌, ◌*◌, ◌/◌, max, Bool, true, false, if◌then◌else◌, ℤ, pos, negsuc, ◌+ℤ◌, neg_ℤ, List, [], ◌∷◌, ◌++◌, map, filter, fold, length, Option, None, Some, option_and_then, option_map, unwrap_or}
+use Rattle.std.specs.Prelude.{ℕ, suc, ◌+◌, ◌*◌, ◌/◌, max, Bool, false, if◌then◌else◌, ℤ, pos, negsuc, ◌+ℤ◌, neg_ℤ, List, [], ◌∷◌, ◌++◌, map, filter, fold, length, Option, None, Some, option_and_then, option_map, unwrap_or}
 use Rattle.std.specs.List.{list_any}
 use Rattle.std.specs.Ordering.{int_cmp, is_eq, is_lt, is_gt}
 use Rattle.std.specs.Cmp.Lexicographic.{pointwise}
@@ -141,9 +141,3 @@ abbrev pub shown : List folds.Kind → List Leaf → OutputTree → List (List �
 shown kinds leaves count rows = Some (number (pos (length rows)) 0)
 shown kinds leaves (aggregate call of) rows = aggregate_of call (scale_in of.kind) (values_of leaves of.typed rows)
 shown kinds leaves (fold_of name of) rows = folded kinds name (scale_in of.kind) (values_of leaves of.typed rows)
-
--- whether an output column is no fold
-abbrev pub is_plain : OutputTree → Bool
-is_plain count = true
-is_plain (aggregate call of) = true
-is_plain (fold_of name of) = false

@@ -48,7 +48,6 @@ pub use decimal::Decimal;
 pub use editing::{Edited, edit};
 pub use extremes::End;
 pub use filter::kept;
-pub use output::is_plain;
 pub use rows::{ROWS_MAX, Rows};
 pub use text::TextIn;
 pub use value::{Sort, day_at, number_at, sort_at, text_at};

@@ -1,11 +1,9 @@
-//! What an output column shows of a group, and whether a plan has folds.
-ghost use Rattle.std.specs.Prelude.{◌≡◌, ◌≤◌, ◌↔◌, IsTrue, IfOk, length, map};
+//! What an output column shows of a group.
+ghost use Rattle.std.specs.Prelude.{◌≡◌, ◌≤◌, IfOk, length, map};
 ghost use Rattle.smc_plan.specs.Kinds.{IsOutput};
 ghost use Rattle.smc_plan.specs.Leaves.{leaves_words};
 ghost use Rattle.smc_plan.specs.Outputs.{output_tree};
-ghost use Rattle.smc_plan.specs.Planned.{output_trees, plan_tree};
-ghost use Rattle.smc_meaning.specs.Answers.{ArePlain, IsPlain};
-ghost use Rattle.smc_meaning.specs.Groups.{is_plain, shown};
+ghost use Rattle.smc_meaning.specs.Groups.{shown};
 ghost use Rattle.smc_meaning.specs.Cells.{column_seen};
 ghost use Rattle.smc_meaning.specs.declared.rows.TheConstants.{ROWS_MAX};
 
@@ -14,33 +12,9 @@ use crate::folding::fold_shown;
 use crate::summing::{average_shown, sum_shown};
 use crate::{Cell, Decimal, End, Rows};
 use smc_folds::{Bench, Fold};
-use smc_plan::{Leaf, Output, Plan};
+use smc_plan::{Leaf, Output};
 use smc_words::NoMemory;
 use std::alloc::Global;
-
-// Whether an output column is no fold.
-fn is_plain_output(output: &Output) -> bool
-    ensures { result ≡ is_plain (output_tree output.now) }
-{
-    !matches!(output, Output::Fold { .. })
-}
-
-// Whether no output column is a fold.
-fn are_plain(items: &[Output]) -> bool
-    ensures { IsTrue result ↔ ArePlain (output_trees items.now) }
-{
-    match items.split_first() {
-        None => true,
-        Some((item, rest)) => is_plain_output(item) && are_plain(rest),
-    }
-}
-
-/// Whether a plan has no fold.
-pub fn is_plain(plan: &Plan) -> bool
-    ensures { IsTrue result ↔ IsPlain (plan_tree plan.now) }
-{
-    are_plain(plan.items.as_slice())
-}
 
 /// What an output column shows of a group.
 pub(crate) fn output_shown(

@@ -74,7 +74,8 @@ fn asks_run(words: &[String]) -> bool
 
 /// All that the program does: what its words ask for, or `BadWords` before anything is read.
 ///
-/// A script calls the boxes of the bench by their names. Where a script with rooms was run, its region is handed back, closed with its pass, unless memory was refused.
+/// A script calls the boxes of the bench by their names. Where a script with rooms was run, its region is handed back, closed
+/// with its pass, unless memory was refused.
 pub fn top<I: Source, F: Shelf, O: Sink>(
     alloc: Global,
     words: &[String],
@@ -111,6 +112,7 @@ pub fn top<I: Source, F: Shelf, O: Sink>(
 #[cfg(test)]
 mod tests {
     use super::*;
+    use smc_folds::{Boxed, Distinct, Median, Range};
     use smc_outside::{MemShelf, MemSink, MemSource};
     use std::test::Fail;
 
@@ -142,6 +144,15 @@ mod tests {
         }
         let mut shelf = MemShelf::new(files, Vec::new(alloc));
         let mut bench = Bench::new(alloc);
+        bench.boxes.push(Boxed {
+            fold: Box::new(alloc, Distinct::new())?,
+        })?;
+        bench.boxes.push(Boxed {
+            fold: Box::new(alloc, Median::new())?,
+        })?;
+        bench.boxes.push(Boxed {
+            fold: Box::new(alloc, Range::new())?,
+        })?;
         let status = top(alloc, &list, &mut bench, &mut input, &mut shelf, &mut out).into_status();
         Ok((format!(in alloc; "{status}")?, out.bytes().to_vec(alloc)?))
     }
@@ -258,6 +269,16 @@ mod tests {
             (
                 "room region 64\nstat region\nupdate region set regionkey = 1 where no = 1\n",
                 "smc: 2 bad script, line 3",
+                "",
+            ),
+            (
+                "room region 64\nadd region a 5|A||\nadd region b 1|B||\nadd region c 5|C||\nquery from region show fold distinct(regionkey), fold median(regionkey), fold range(regionkey)\n",
+                "smc: 0 done",
+                "added a\nadded b\nadded c\nrows 1\n2|5|4\n",
+            ),
+            (
+                "room region 64\nquery from region show fold total(regionkey)\n",
+                "smc: 2 bad script, line 2",
                 "",
             ),
             (
