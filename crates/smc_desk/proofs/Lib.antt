@@ -5,3 +5,5 @@ pub mod LoadLaws
 pub mod RunLaws
 pub mod EditLaws
 pub mod QueryLaws
+pub mod FoldLaws
+pub mod DropLaws

@@ -44,10 +44,10 @@ take-front [] ys = refl
 take-front (x ∷ xs) ys = ap (λ rest. x ∷ rest) (take-front xs ys)
 
 -- all that is written is a front, and a front behind what was written
-front-all : (a b : Option (List ℕ)) (text : List ℕ) → Appends a b text → AppendsFront a b text
+pub front-all : (a b : Option (List ℕ)) (text : List ℕ) → Appends a b text → AppendsFront a b text
 front-all a b text all = (length text, subst (λ x. Appends a b x) (sym (take_all (length text) text (omega arith))) all)
 
-front-behind : (a b c : Option (List ℕ)) (text said : List ℕ) → Appends a b text → AppendsFront b c said → AppendsFront a c (text ++ said)
+pub front-behind : (a b c : Option (List ℕ)) (text said : List ℕ) → Appends a b text → AppendsFront b c said → AppendsFront a c (text ++ said)
 front-behind a b c text said all front = (length text + front.0, subst (λ x. Appends a c x) (sym (take-behind text said front.0)) (Appends-trans a b c text (take front.0 said) all front.1))
 
 -- ---- parts
@@ -205,31 +205,3 @@ ends-unclosed Closed scene kinds (NoFile name) parts old new a b ends = unclosed
 ends-unclosed Closed scene kinds (BadTable name line) parts old new a b ends = unclosed Closed scene kinds parts a b (front-of-stopped scene (books_of kinds) (BadTable name line) parts ends.0 a b ends.2)
 ends-unclosed Closed scene kinds (TableFull name line) parts old new a b ends = unclosed Closed scene kinds parts a b (front-of-stopped scene (books_of kinds) (TableFull name line) parts ends.0 a b ends.2)
 ends-unclosed Closed scene kinds ReadFault parts old new a b ends = unclosed Closed scene kinds parts a b (front-of-stopped scene (books_of kinds) ReadFault parts ends.0 a b ends.2)
-
--- ---- without rooms
-
--- a command needs a room
-cannot : (folds : List Word) (part : PartTree) → CanRunPart (shape_asked []) folds part → ⊥
-cannot folds (one numbered) may = go numbered.command may
-  where
-    go : (c : CommandTree) → CanRunPart (shape_asked []) folds (one (record { line = numbered.line; command = c })) → ⊥
-    go (load place file) may = let none = may.coll in omega (arith, none)
-    go (stat place) may = omega (arith, may)
-    go (query place tree) may = omega (arith, may.1)
-    go (compact place) may = omega (arith, may)
-    go (add place name row) may = let none = may.0.coll in omega (arith, none)
-    go (get place name) may = let none = may.coll in omega (arith, none)
-    go (set place name column value) may = let none = may.0.coll in omega (arith, none)
-    go (remove place name) may = omega (arith, may)
-    go (delete place filter) may = omega (arith, may.1)
-    go (update place column value filter) may = let none = may.1.coll in omega (arith, none)
-    go _ may = may
-cannot folds (group workers) may = may
-
-pub no-parts : (folds : List Word) (parts : List PartTree) → AllByRecursion (CanRunPart (shape_asked []) folds) parts → parts ≡ []
-no-parts folds [] all = refl
-no-parts folds (part ∷ later) all = absurd (cannot folds part all.0)
-
-pub nothing-to-run : (scene : Scene) (kinds : List Kind) (folds : List Word) (rooms : List Room) (parts : List PartTree) (a : Option (List ℕ)) → length rooms ≡ 0 → AllByRecursion (CanRunPart (shape_asked rooms) folds) parts → RunsAs (Closes rooms) scene kinds Done parts None a a
-nothing-to-run scene kinds folds [] parts a none may = subst (λ (ps : List PartTree). RunsAs (Closes []) scene kinds Done ps None a a) (sym (no-parts folds parts may)) ([], (books_of kinds, ([], (refl, refl, refl), Appends-nil a)), refl)
-nothing-to-run scene kinds folds (room ∷ later) parts a none may = absurd (omega arith)

@@ -18,6 +18,7 @@ use crate::books::Books;
 use crate::loads::load_table;
 use crate::outside::one;
 use crate::reply::Reply;
+use crate::roomless::drop_parts;
 use smc_core::Opening;
 use smc_folds::{Bench, Fold};
 use smc_load::LoadFault;
@@ -83,8 +84,8 @@ fn shape_of(alloc: Global, catalog: &Catalog, rooms: &[Room]) -> Result<Shape, N
     }
 }
 
-// Writes a reply.
-fn write_reply<O: Sink>(out: &mut O, reply: &Reply) -> RunEnd
+/// Writes a reply.
+pub(crate) fn write_reply<O: Sink>(out: &mut O, reply: &Reply) -> RunEnd
     ensures ends { Writes result (O.held out.old) (O.held out.new) reply.now }
     ensures cause { result ≡ RunEnd.WriteFault → Rose (O.faults out.old) (O.faults out.new) }
     ensures later { O.faults out.old ≤ O.faults out.new }
@@ -351,7 +352,7 @@ pub fn run_alone<F: Shelf, O: Sink>(
 {
     let rooms = script.rooms.as_slice();
     if rooms.is_empty() {
-        return Ran::without(RunEnd::Done);
+        return Ran::without(drop_parts(alloc, script.parts.as_slice(), bench, out));
     }
     match shape_of(alloc, catalog, rooms) {
         Ok(shape) => run_in(

@@ -51,7 +51,7 @@ pub fn is_known(
     match c {
         Command::Stat { .. } | Command::Load { .. } | Command::Compact { .. } => Ok(true),
         Command::Add { .. } | Command::Get { .. } => Ok(true),
-        Command::Set { .. } | Command::Remove { .. } => Ok(true),
+        Command::Set { .. } | Command::Remove { .. } | Command::DropFold { .. } => Ok(true),
         Command::Query { query, .. } => can_query(alloc, query, catalog, folds),
         Command::Delete { place, filter } => can_delete(alloc, *place, filter, catalog),
         Command::Update {
@@ -60,7 +60,6 @@ pub fn is_known(
             value,
             filter,
         } => can_update(alloc, *place, column, value, filter.as_ref(), catalog),
-        Command::DropFold { .. } => Ok(false),
     }
 }
 

@@ -12,7 +12,7 @@ use crate::books::Books;
 use crate::edits::{delete, update};
 use crate::objects::{add, get, remove, set};
 use crate::queries::query;
-use crate::reply::{Reply, objects_line, packed_reply};
+use crate::reply::{Reply, dropped_line, objects_line, packed_reply};
 use crate::tables::table_name;
 use smc_compact::pack;
 use smc_folds::{Bench, Fold};
@@ -118,6 +118,10 @@ pub fn one(
             pass,
             region,
         ),
-        _ => unreachable!(),
+        Command::DropFold { name } => {
+            bench.drop_one(name.as_str());
+            (pass, dropped_line(alloc, name.as_str()))
+        }
+        Command::Load { .. } => unreachable!(),
     }
 }

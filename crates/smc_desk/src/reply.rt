@@ -1,6 +1,7 @@
 //! The reply to a command.
 ghost use Rattle.std.specs.Prelude.{◌≡◌, IfOk, codes, length, string_bytes};
 ghost use Rattle.smc_types.specs.Columns.{columns_width};
+ghost use Rattle.smc_replies.specs.Folds.{dropped_line};
 ghost use Rattle.smc_replies.specs.Loads.{loaded_line};
 ghost use Rattle.smc_replies.specs.Objects.{PrintsObject, add_line, found_line, null_line};
 ghost use Rattle.smc_replies.specs.Commands.{objects_line, packed_line, packed_reply};
@@ -86,6 +87,13 @@ pub(crate) fn loaded_reply(alloc: Global, table: &str, count: u64) -> Result<Rep
     ensures { IfOk result (λ reply. reply ≡ loaded_line table.now count) }
 {
     Ok(Reply::of(format!(in alloc; "loaded {table} {count}\n")?))
+}
+
+/// The line that says which fold was dropped.
+pub(crate) fn dropped_line(alloc: Global, name: &str) -> Result<Reply, NoMemory>
+    ensures { IfOk result (λ reply. reply ≡ dropped_line name.now) }
+{
+    Ok(Reply::of(format!(in alloc; "dropped {name}\n")?))
 }
 
 /// The reply to a delete: how many objects it removed first.

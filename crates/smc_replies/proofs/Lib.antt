@@ -5,4 +5,5 @@ pub mod ObjectFronts
 pub mod LoadFronts
 pub mod EditFronts
 pub mod QueryFronts
+pub mod FoldFronts
 pub mod PartLaws

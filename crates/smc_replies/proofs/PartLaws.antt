@@ -6,7 +6,7 @@ use Rattle.smc_query.specs.Trees.{Word}
 use Rattle.smc_types.specs.Tables.{the_tables}
 use Rattle.smc_script.specs.Tables.{schema_of}
 use Rattle.smc_script.specs.Sound.{EachCommand}
-use Rattle.smc_script.specs.Trees.{CommandTree, PartTree, add, compact, delete, get, load, one, group, query, remove, set, stat, update}
+use Rattle.smc_script.specs.Trees.{CommandTree, PartTree, add, compact, delete, drop_fold, get, load, one, group, query, remove, set, stat, update}
 use Rattle.smc_replies.specs.Books.{Books, KnowsSame, Named, object_of}
 use Rattle.smc_replies.specs.Laws.{CommandIsOne, IsOnePart, OnePartMore, TellsLoad, TextIsOne}
 use Rattle.smc_replies.specs.Objects.{GetsBy, OnObject, RemovesNamed, SetsBy}
@@ -21,6 +21,7 @@ use Rattle.smc_replies.proofs.PackFronts.{packs-one}
 use Rattle.smc_replies.proofs.LoadFronts.{loads-one}
 use Rattle.smc_replies.proofs.EditFronts.{deletes-one, updates-one}
 use Rattle.smc_replies.proofs.QueryFronts.{answers-one}
+use Rattle.smc_replies.proofs.FoldFronts.{drops-one}
 use Rattle.smc_replies.proofs.ObjectFronts.{DayHasOneText, adds-one, gets-one, on-object-one, removes-one, sets-one}
 
 -- what is known before is known behind, where the command gives no name
@@ -76,7 +77,9 @@ command-one days scene (update place column value filter) old new before after f
     part-of new after first other rest behind text said same
     (updates-one scene.shape (table_name place.table) place.coll column value filter first other rest behind text said runs.1 again.1 same)
     (known-kept old new before after are runs.0 again.0)
-command-one days scene _ old new before after first other rest behind text said tells are runs again same = absurd runs
+command-one days scene (drop_fold name) old new before after first other rest behind text said tells are runs again same =
+    let read = drops-one name old new before after first other rest behind text said are runs again same in
+    part-of new after first other rest behind text said same read.0 read.1
 
 pub part-one : DayHasOneText → (scene : Scene) (part : PartTree) (old new before after : Books) (first other rest behind : List CallEnd) (text said : List ℕ) → EachCommand (TellsLoad scene) part
     → KnowsSame old before → RunsPart scene part old new first text → RunsPart scene part before after other said → first ++ rest ≡ other ++ behind

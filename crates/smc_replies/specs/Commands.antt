@@ -1,5 +1,5 @@
 -- What each command does, and what it replies.
-use Rattle.std.specs.Prelude.{◌≡◌, ℕ, ◌<◌, Bool, true, false, is_ok, List, [], ◌++◌, length, codes, Option, Some, None}
+use Rattle.std.specs.Prelude.{◌≡◌, ⊤, ℕ, ◌<◌, Bool, true, false, is_ok, List, [], ◌++◌, length, codes, Option, Some, None}
 use Rattle.std.specs.Fmt.{decimal}
 use Rattle.smc_shape.specs.Layout.{Layout, width_of}
 use Rattle.smc_trace.specs.Trace.{CallEnd}
@@ -15,13 +15,14 @@ use Rattle.smc_query.specs.Trees.{Word}
 use Rattle.smc_types.specs.Columns.{columns_width}
 use Rattle.smc_script.specs.Sound.{FitsColumn, FitsTable}
 use Rattle.smc_script.specs.Tables.{schema_of}
-use Rattle.smc_script.specs.Trees.{CommandTree, load, add, compact, delete, get, query, remove, set, stat, update}
+use Rattle.smc_script.specs.Trees.{CommandTree, load, add, compact, delete, drop_fold, get, query, remove, set, stat, update}
 use Rattle.smc_script.specs.declared.script.Place.{Place}
 use Rattle.smc_load.specs.declared.fault.LoadFault.{LoadFault}
 use Rattle.smc_replies.specs.Books.{Books, object_of}
 use Rattle.smc_replies.specs.Loads.{Scene, LoadsBy, StopsBy}
 use Rattle.smc_replies.specs.Edits.{DeletesWhere, UpdatesWhere, delete_plan, update_plan}
 use Rattle.smc_replies.specs.Queries.{AnswersQuery, query_plan}
+use Rattle.smc_replies.specs.Folds.{DropsFold}
 use Rattle.smc_replies.specs.Objects.{AddsBy, GetsBy, OnObject, RemovesNamed, SetsBy}
 use Rattle.smc_replies.specs.declared.limits.TheConstants.{COMPACT_TURNS}
 
@@ -72,7 +73,7 @@ pub record PacksTable (place : Place) (calls : List CallEnd) (text : List ℕ) :
 
 -- ---- commands
 
--- the commands that are run where the script was read with folds of these names, queries and edits where they have a plan; a script that has another one is refused at its line
+-- whether a command is run where the script was read with folds of these names: queries and edits are where they have a plan; a script with a command that is not is refused at its line
 abbrev pub is_known : List Word → CommandTree → Bool
 is_known folds (load place file) = true
 is_known folds (stat place) = true
@@ -84,7 +85,7 @@ is_known folds (set place name column value) = true
 is_known folds (remove place name) = true
 is_known folds (delete place filter) = is_ok (delete_plan (table_name place.table) filter)
 is_known folds (update place column value filter) = is_ok (update_plan (table_name place.table) column value filter)
-is_known folds _ = false
+is_known folds (drop_fold name) = true
 
 -- ---- what a command needs
 
@@ -111,7 +112,7 @@ CanRun shape folds (set place name column value) = IsTableOf shape place × Fits
 CanRun shape folds (remove place name) = IsCollOf shape place
 CanRun shape folds (delete place filter) = (is_ok (delete_plan (table_name place.table) filter) ≡ true) × IsCollOf shape place
 CanRun shape folds (update place column value filter) = (is_ok (update_plan (table_name place.table) column value filter) ≡ true) × IsTableOf shape place
-CanRun shape folds _ = ⊥
+CanRun shape folds (drop_fold name) = ⊤
 
 -- ---- what it does
 
@@ -135,7 +136,7 @@ RunsCommand scene (remove place name) old new calls text = (new ≡ old) × OnOb
 RunsCommand scene (delete place filter) old new calls text = (new ≡ old) × DeletesWhere scene.shape (table_name place.table) place.coll filter calls text
 RunsCommand scene (update place column value filter) old new calls text =
     (new ≡ old) × UpdatesWhere scene.shape (table_name place.table) place.coll column value filter calls text
-RunsCommand scene _ old new calls text = ⊥
+RunsCommand scene (drop_fold name) old new calls text = DropsFold name old new calls text
 
 -- the command is a load of this file, which stops at the fault behind these calls
 abbrev pub StopsIn : Scene → Word → LoadFault → CommandTree → Books → List CallEnd → Type 0

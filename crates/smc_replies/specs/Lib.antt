@@ -3,6 +3,7 @@ pub mod Objects
 pub mod Loads
 pub mod Edits
 pub mod Queries
+pub mod Folds
 pub mod Commands
 pub mod Scripts
 pub mod Laws

@@ -13,6 +13,7 @@ use Rattle.smc_replies.specs.Edits.{DeletesWhere, UpdatesWhere}
 use Rattle.smc_replies.specs.Queries.{AnswersQuery}
 use Rattle.smc_replies.specs.Objects.{GetsBy, OnObject, RemovesNamed, SetsBy}
 use Rattle.smc_desk.specs.Runs.{scene_of, seen}
+use Rattle.smc_desk.proofs.FoldLaws.{drop-run}
 use Rattle.smc_desk.proofs.ObjectLaws.{kept-run}
 use Rattle.smc_desk.proofs.outside.one.Goals as goal
 
@@ -117,3 +118,15 @@ returns-in-Add-clause-done g c files =
     let new = c.add.result.0 in
     let reply = c.add.result.1 in
     subst (λ (k : Command). IfOk reply (λ text. DoesSome old new (λ calls. RunsCommand scene (command_tree k) known now calls text))) (sym c.in-Add.is) (c.add.ensures.done kinds)
+
+pub returns-in-DropFold-clause-done : goal.returns-in-DropFold-clause-done
+returns-in-DropFold-clause-done g c files =
+    let scene = scene_of files c.args.region.now.about.shape c.args.folds.now in
+    let kinds = map (λ b. (goal.Fold-dyn g (b.fold.vtable, b.fold.value)).kind b.fold.value) c.args.bench.now.boxes.items in
+    let left = map (λ b. (goal.Fold-dyn g (b.fold.vtable, b.fold.value)).kind b.fold.value) c.drop_one.new.self.boxes.items in
+    let known = seen c.args.books.now kinds in
+    let now = seen c.args.books.now left in
+    let pass = c.args.pass in
+    let reply = c.dropped_line.result in
+    subst (λ (k : Command). IfOk reply (λ text. DoesSome pass pass (λ calls. RunsCommand scene (command_tree k) known now calls text))) (sym c.in-DropFold.is)
+    (drop-run c.in-DropFold.name c.args.books.now kinds left pass reply (rw c.as_str.ensures at c.drop_one.ensures.dropped) (rw c.as_str-in-DropFold.ensures at c.dropped_line.ensures))
