@@ -23,7 +23,7 @@ use Rattle.smc_script.specs.Scripts.{Answers, TextGives}
 use Rattle.smc_script.specs.Sound.{EachCommand, IsFit, IsPlaced, IsPlacedAmong, IsRoomPlace, Opens, coll_of_room}
 use Rattle.smc_script.specs.Tables.{schema_of, table_width, width_by}
 use Rattle.smc_script.specs.declared.script.Place.{Place}
-use Rattle.smc_script.specs.Trees.{CommandTree, PartTree, ScriptTree, add, compact, delete, get, load, one, group, query, remove, set, stat, update}
+use Rattle.smc_script.specs.Trees.{CommandTree, PartTree, ScriptTree, add, compact, delete, drop_fold, get, load, one, group, query, remove, set, stat, update}
 use Rattle.smc_script.specs.declared.fault.ScriptFault.{ScriptFault}
 use Rattle.smc_script.specs.declared.fault.ScriptFault.TheVariants.{Bad}
 use Rattle.smc_script.specs.declared.fault.ScriptFault.TheVariants as fault
@@ -138,7 +138,7 @@ part-may folds rooms (one numbered) opens placed fits known = go numbered.comman
     go (get place name) placed fits known = table-of rooms place opens placed
     go (set place name column value) placed fits known = (table-of rooms place opens placed, fits)
     go (remove place name) placed fits known = coll-of rooms place placed
-    go _ placed fits known = absurd (no-test known)
+    go (drop_fold name) placed fits known = tt
 part-may folds rooms (group workers) opens placed fits known = absurd (no-test known)
 
 -- so may all parts of a script without a command that is not run

@@ -276,6 +276,17 @@ mod tests {
                 "smc: 0 done",
                 "added a\nadded b\nadded c\nrows 1\n2|5|4\n",
             ),
+            ("drop fold median\n", "smc: 0 done", "dropped median\n"),
+            (
+                "room region 64\ndrop fold median\nquery from region show fold range(regionkey), fold distinct(regionkey)\n",
+                "smc: 0 done",
+                "dropped median\nrows 1\nnone|0\n",
+            ),
+            (
+                "room region 64\nquery from region show fold median(regionkey)\ndrop fold median\nquery from region show fold median(regionkey)\n",
+                "smc: 2 bad script, line 4",
+                "",
+            ),
             (
                 "room region 64\nquery from region show fold total(regionkey)\n",
                 "smc: 2 bad script, line 2",
