@@ -1,8 +1,9 @@
 //! What each command of a script does, and what it replies.
 //!
-//! `specs/Commands.antt` has one record for each command that is run: the calls of its pass, in order, and the text of
-//! its reply, which follows from them; `Objects.antt` has those of the commands on one object, by the names and keys of
-//! `Books.antt`, which are known between commands, and `Loads.antt` those of a load, over the files of its scene. It also says which commands these are, and what each needs.
+//! `specs/Commands.antt` says of each command what it needs, what it does and what it replies: the calls of its pass, in
+//! order, and the text that follows from them. `Objects.antt` has the commands on one object, by the names and keys of
+//! `Books.antt`, which are known between commands; `Loads.antt` a load, over the files of its scene; `Queries.antt` a query,
+//! `Edits.antt` deletes and updates, and `Folds.antt` folds that are dropped. It also says which commands are run.
 //! `specs/Scripts.antt` puts the parts of a script one behind another, and `laws` has what follows of all of them: a command's
 //! calls are read off from the front of a trace, and one trace has one text. `limits` says how much a command may ask for.
 //! Below stand the calls on objects, the rounds, the loading of rows and the types of scripts; above, the programs that run
