@@ -1,0 +1,8 @@
+mod Columns
+mod PickLaws
+mod KeptLaws
+mod SumLaws
+mod EndLaws
+mod TotalLaws
+mod PrintLaws
+mod AnswerLaws
