@@ -6,3 +6,4 @@ mod EndLaws
 mod TotalLaws
 mod PrintLaws
 mod AnswerLaws
+mod ColumnLaws

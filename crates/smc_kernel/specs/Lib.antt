@@ -1,3 +1,4 @@
 pub mod Batches
 pub mod Chosen
 pub mod Taken
+pub mod Columns

@@ -19,6 +19,8 @@ ghost use Rattle.smc_kernel.specs.Batches.{ArePlaces, rows_at};
 ghost use Rattle.smc_kernel.specs.Taken.{AreTotals, FitsTotal, IsTotal, end_found};
 
 use crate::batch::Batch;
+use crate::column::column_at;
+use crate::units::total_of;
 use smc_meaning::{End, compare_rows, number_at};
 use smc_plan::{Kinded, Leaf, Output, Typed};
 use smc_words::NoMemory;
@@ -58,6 +60,22 @@ fn sum_rows(leaves: &[Leaf], of: &Typed, batch: &Batch, places: &[u8], row: &mut
         total = together(total, number.units);
     }
     total
+}
+
+// The same: column by column where all that is reckoned fits 64 bits, and else row by row.
+fn sum_at(leaves: &[Leaf], of: &Typed, batch: &Batch, places: &[u8], row: &mut [u64]) -> i128
+    requires words { batch.now.width ≡ leaves_words leaves.now }
+    requires row { length row.old ≡ leaves_words leaves.now }
+    requires places { ArePlaces batch.now.rows places.now }
+    requires summable { IsSummable leaves.now (typed_tree of.now) }
+    ensures total { result ≡ sum_of (values_of leaves.now (typed_tree of.now) (rows_at batch.now.rows places.now)) }
+    ensures small { unsigned_abs result ≤ length places.now * (SUM_LIMIT - 1) }
+    ensures row { length row.new ≡ length row.old }
+{
+    match column_at(leaves, of, batch, places) {
+        Some(column) => total_of(column.units.as_slice()),
+        None => sum_rows(leaves, of, batch, places, row),
+    }
 }
 
 // Whether a value that compares so with the best so far is better.
@@ -146,7 +164,7 @@ impl Total {
         ensures fits { FitsTotal (leaves_words leaves.now) (kept + length places.now) self.new }
         ensures row { length row.new ≡ length row.old }
     {
-        let more = sum_rows(leaves, &of.typed, batch, places, row);
+        let more = sum_at(leaves, &of.typed, batch, places, row);
         self.sum = together(self.sum, more);
     }
 
