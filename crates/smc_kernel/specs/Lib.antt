@@ -1,4 +1,3 @@
 pub mod Batches
-pub mod Chosen
 pub mod Taken
 pub mod Columns

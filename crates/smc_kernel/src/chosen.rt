@@ -1,8 +1,6 @@
 //! Places of a batch that are chosen.
-ghost use Rattle.std.specs.Prelude.{◌≡◌, ◌++◌, ◌∷◌, [], ◌<◌, ◌≤◌, ◌+◌, if◌then◌else◌, length, not, filter};
-ghost use Rattle.std.specs.List.{range_with_len};
+ghost use Rattle.std.specs.Prelude.{◌≡◌, ◌++◌, ◌∷◌, [], ◌<◌, ◌≤◌, if◌then◌else◌, length};
 ghost use Rattle.smc_kernel.specs.declared.batch.TheConstants.{ROOM};
-ghost use Rattle.smc_kernel.specs.Chosen.{is_among};
 
 use crate::batch::ROOM;
 use std::marker::Model;
@@ -36,18 +34,6 @@ impl Chosen {
         }
     }
 
-    /// The first places, so many.
-    pub(crate) fn first(count: usize) -> Chosen
-        requires { count ≤ ROOM }
-        ensures { result ≡ range_with_len 0 count }
-    {
-        let mut chosen = Chosen::new();
-        for place in 0..count {
-            chosen.offer(place as u8, true);
-        }
-        chosen
-    }
-
     /// All of them.
     #[inline(always)]
     pub(crate) fn as_slice(&self) -> &[u8]
@@ -67,28 +53,4 @@ impl Chosen {
         self.places[self.count] = place;
         self.count += usize::from(keep);
     }
-}
-
-/// Those of the places that are not among the others.
-pub(crate) fn without(places: &[u8], others: &[u8]) -> Chosen
-    requires { length places.now ≤ ROOM }
-    ensures { result ≡ filter (λ place. not (is_among others.now place)) places.now }
-{
-    let mut chosen = Chosen::new();
-    for place in places {
-        let among = is_among(others, *place);
-        chosen.offer(*place, !among);
-    }
-    chosen
-}
-
-// Whether a place is among these.
-fn is_among(places: &[u8], wanted: u8) -> bool
-    ensures { result ≡ is_among places.now wanted }
-{
-    let mut found = false;
-    for place in places {
-        found = found || *place == wanted;
-    }
-    found
 }
