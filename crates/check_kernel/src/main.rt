@@ -9,14 +9,15 @@ ghost use Rattle.std.specs.Prelude.{◌≡◌, ◌<◌, [], length, IfOk, OnOk};
 ghost use Rattle.smc_plan.specs.Kinds.{IsPlan};
 ghost use Rattle.smc_plan.specs.Leaves.{leaves_words};
 ghost use Rattle.smc_plan.specs.Planned.{plan_tree};
-ghost use Rattle.smc_meaning.specs.Answers.{IsPlain};
+ghost use Rattle.smc_kernel.specs.Plain.{IsPlain};
 ghost use Rattle.smc_kernel.specs.Taken.{IsReady};
 ghost use Rattle.smc_kernel.specs.declared.batch.TheConstants.{ROOM};
 
 use anyhow::bail;
-use smc_kernel::{Batch, Kernel, ROOM};
+use smc_folds::Bench;
+use smc_kernel::{Batch, Kernel, ROOM, is_plain};
 use smc_lang::parse;
-use smc_meaning::{ROWS_MAX, Rows, is_plain, slow};
+use smc_meaning::{ROWS_MAX, Rows, slow};
 use smc_plan::laws::parts_are_typed;
 use smc_plan::{Leaf, Plan, plan_query};
 use smc_types::{Catalog, FieldType, tpch};
@@ -59,7 +60,8 @@ fn told_of(
         bail!("too many rows");
     }
     let fast = answer_over(alloc, &plan, &rows)?;
-    let plain = slow(alloc, &plan, &rows)?.text(alloc)?;
+    let mut bench = Bench::new(alloc);
+    let plain = slow(alloc, &plan, &mut bench, &rows)?.text(alloc)?;
     Ok(if fast.as_slice() == plain.as_slice() {
         "same"
     } else {

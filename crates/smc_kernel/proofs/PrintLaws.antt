@@ -20,14 +20,14 @@ prints made meant is can = subst CanPrint (sym is) can
 -- a sum
 pub sum-prints : (leaves : List Leaf) (of : KindedTree) (units : ℤ) (made : Option Cell) → IsOutput leaves (aggregate total of)
     → made ≡ Some (number units (scale_in of.kind)) → CanPrint made
-sum-prints leaves of units made is shows = prints made (Some (number units (scale_in of.kind))) shows (shown-prints [] leaves (aggregate total of) [] is refl)
+sum-prints leaves of units made is shows = prints made (Some (number units (scale_in of.kind))) shows (shown-prints [] leaves (aggregate total of) [] is)
 
 -- an average
 pub average-prints : (leaves : List Leaf) (of : KindedTree) (kept : ℕ) (units : ℤ) (made : Option Cell) → IsOutput leaves (aggregate average of)
     → (kept ≡ 0 → made ≡ None) → (0 < kept → made ≡ Some (number units (average_scale (scale_in of.kind)))) → CanPrint made
 average-prints leaves of zero units made is none some = prints made None (none refl) tt
 average-prints leaves of (suc more) units made is none some =
-    prints made (Some (number units (average_scale (scale_in of.kind)))) (some (omega arith)) (shown-prints [] leaves (aggregate average of) ([] ∷ []) is refl)
+    prints made (Some (number units (average_scale (scale_in of.kind)))) (some (omega arith)) (shown-prints [] leaves (aggregate average of) ([] ∷ []) is)
 
 either-prints : (test : Bool) (value : Cell) → CanPrint (Some value) → CanPrint (cond test None (Some value))
 either-prints true value can = tt

@@ -1,3 +1,4 @@
+pub mod Plain
 pub mod Batches
 pub mod Taken
 pub mod Columns

@@ -3,7 +3,7 @@ use Rattle.std.specs.List.{AllByRecursion}
 use Rattle.std.proofs.lemmas.List.Elements.{All-from_recursion}
 use Rattle.smc_plan.specs.Outputs.{OutputTree, output_tree}
 use Rattle.smc_plan.specs.Planned.{output_trees}
-use Rattle.smc_meaning.specs.Groups.{is_plain}
+use Rattle.smc_kernel.specs.Plain.{is_plain}
 use Rattle.smc_kernel.specs.Taken.{FitsTotal}
 use Rattle.smc_kernel.specs.declared.total.Total.{Total}
 use Rattle.smc_kernel.proofs.TotalLaws.{all-more, none-next, seen-all}
