@@ -7,13 +7,13 @@ use Rattle.smc_query.specs.Trees.{CondTree, ExprTree, Word}
 use Rattle.smc_plan.specs.Edits.{PlannedEdit}
 use Rattle.smc_plan.specs.Planned.{Planned}
 use Rattle.smc_visits.specs.declared.edits.Edits.{Edits}
+use Rattle.smc_visits.proofs.FrontLaws.{later-calls}
 use Rattle.smc_visits.proofs.EditFronts.{edits-front}
 use Rattle.smc_exec.specs.Deletes.{DeletesRows, deletes}
 use Rattle.smc_exec.specs.Updates.{UpdatesRows, updates}
 use Rattle.smc_exec.specs.declared.update.Updated.{Updated}
 use Rattle.smc_replies.specs.Edits.{DeletesWhere, UpdatesWhere, delete_plan, deleted_line, update_plan, updated_line}
 use Rattle.smc_replies.proofs.Replied.{IsOneReply, one-plan}
-use Rattle.smc_replies.proofs.Fronts.{later-calls}
 use Rattle.smc_replies.proofs.ObjectFronts.{inner-front}
 
 pub deletes-one : (shape : Layout) (table : Word) (coll : ℕ) (filter : CondTree) (first other rest behind : List CallEnd) (text said : List ℕ) → DeletesWhere shape table coll filter first text

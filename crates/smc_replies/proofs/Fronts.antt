@@ -7,33 +7,9 @@ use Rattle.smc_core.specs.declared.local.Held.{Held}
 use Rattle.smc_trace.specs.Named.{begins, comes_to, enters, leaves}
 use Rattle.smc_trace.specs.Trace.{CallEnd}
 use Rattle.smc_objects.specs.Alone.{CountsObjects, InSection, visits_all}
+use Rattle.smc_visits.proofs.FrontLaws.{first-done, first-event, later-calls, same-held, visit-is-no-end, visit-number, visit-slot}
 use Rattle.smc_replies.specs.Commands.{Counts}
 use Rattle.smc_replies.proofs.Replied.{IsOneReply}
-
--- the first of two equal lists of calls have one answer, and one event
-pub first-done : (x y : CallEnd) (s t : List CallEnd) → (x ∷ s) ≡ (y ∷ t) → x.done ≡ y.done
-first-done x y s t is = let same : x ≡ y = cc in ap (λ (k : CallEnd). k.done) same
-
-pub first-event : (x y : CallEnd) (s t : List CallEnd) → (x ∷ s) ≡ (y ∷ t) → x.event ≡ y.event
-first-event x y s t is = let same : x ≡ y = cc in ap (λ (k : CallEnd). k.event) same
-
-pub later-calls : (x y : CallEnd) (s t : List CallEnd) → (x ∷ s) ≡ (y ∷ t) → s ≡ t
-later-calls x y s t is = cc
-
-same-visit : (x y : Held) → x.number ≡ y.number → x.slot ≡ y.slot → x ≡ y
-same-visit x y number slot =
-    ap (λ (n : Number). let one : Held = record { number = n; slot = x.slot } in one) number
-    ∙ ap (λ (k : ℕ). let one : Held = record { number = y.number; slot = k } in one) slot
-
--- a visit is no end of a scan, and two visits that answer the same came to one object
-visit-is-no-end : (number : Number) (slot : ℕ) → done.Visit number slot ≡ done.End → ⊥
-visit-is-no-end number slot is = cc
-
-visit-number : (number other : Number) (slot place : ℕ) → done.Visit number slot ≡ done.Visit other place → number ≡ other
-visit-number number other slot place is = cc
-
-visit-slot : (number other : Number) (slot place : ℕ) → done.Visit number slot ≡ done.Visit other place → slot ≡ place
-visit-slot number other slot place is = cc
 
 at-epoch : (epoch other : ℕ) → done.At epoch ≡ done.At other → epoch ≡ other
 at-epoch epoch other is = cc
@@ -49,7 +25,7 @@ visits-front scan scan' [] (y ∷ ys) rest behind same = absurd (visit-is-no-end
 visits-front scan scan' (x ∷ xs) [] rest behind same = absurd (visit-is-no-end x.number x.slot (first-done _ _ _ _ same))
 visits-front scan scan' (x ∷ xs) (y ∷ ys) rest behind same =
     let answer : done.Visit x.number x.slot ≡ done.Visit y.number y.slot = first-done _ _ _ _ same in
-    let one : x ≡ y = same-visit x y (visit-number _ _ _ _ answer) (visit-slot _ _ _ _ answer) in
+    let one : x ≡ y = same-held x y (visit-number _ _ _ _ answer) (visit-slot _ _ _ _ answer) in
     let later : (xs ≡ ys) × (rest ≡ behind) = visits-front scan scan' xs ys rest behind (later-calls _ _ _ _ same) in
     let met : (x ∷ xs) ≡ (y ∷ ys) = ap (λ (v : Held). v ∷ xs) one ∙ ap (λ (vs : List Held). y ∷ vs) later.0 in
     (met, later.1)

@@ -20,13 +20,13 @@ use Rattle.smc_types.specs.declared.schema.Schema.{Schema}
 use Rattle.smc_types.specs.Days.{SpellsDay}
 use Rattle.smc_types.specs.Columns.{value_kinds}
 use Rattle.smc_types.specs.Rows.{row_of}
+use Rattle.smc_visits.proofs.FrontLaws.{first-done, first-event, later-calls, null-is-not-here, one-value}
 use Rattle.smc_tbl.specs.Printed.{PrintsRow, PrintsValue}
 use Rattle.smc_tbl.specs.declared.bytes.TheConstants.{BAR}
 use Rattle.smc_script.specs.declared.script.Place.{Place}
 use Rattle.smc_replies.specs.Books.{Books, KnowsSame, Named, with_name}
 use Rattle.smc_replies.specs.Objects.{AddsBy, GetsBy, OnObject, PrintsObject, RemovesNamed, SetsBy, found_line}
 use Rattle.smc_replies.proofs.Replied.{IsOneReply}
-use Rattle.smc_replies.proofs.Fronts.{first-done, first-event, later-calls}
 
 -- ---- one call and the next
 
@@ -41,14 +41,8 @@ inner-front first other rest behind one two same =
     let flat = given (enters one.epoch ++ (one.inner ++ leaves)) (enters two.epoch ++ (two.inner ++ leaves)) first other rest behind one.made two.made same in
     sym (append_assoc one.inner leaves rest) ∙ later-calls _ _ _ _ flat ∙ append_assoc two.inner leaves behind
 
-null-is-not-here : (slot : ℕ) → done.Null ≡ done.Here slot → ⊥
-null-is-not-here slot is = cc
-
 value-is-not-out : (value : ℕ) → done.Value value ≡ done.Out → ⊥
 value-is-not-out value is = cc
-
-one-value : (value other : ℕ) → done.Value value ≡ done.Value other → value ≡ other
-one-value value other is = cc
 
 made-is-not-full : (slot : ℕ) (cause : Cause) → done.Made slot ≡ done.Full cause → ⊥
 made-is-not-full slot cause is = cc

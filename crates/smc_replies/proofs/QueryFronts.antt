@@ -6,13 +6,13 @@ use Rattle.smc_trace.specs.Trace.{CallEnd}
 use Rattle.smc_folds.specs.Kinds.{Kind}
 use Rattle.smc_query.specs.Trees.{QueryTree, Word}
 use Rattle.smc_plan.specs.Planned.{Planned}
+use Rattle.smc_visits.proofs.FrontLaws.{later-calls}
 use Rattle.smc_visits.proofs.ReadFronts.{scans-front}
 use Rattle.smc_meaning.specs.Answers.{answer_of}
 use Rattle.smc_meaning.specs.Printed.{answer_text}
 use Rattle.smc_exec.specs.Queries.{AnswersRows}
 use Rattle.smc_replies.specs.Queries.{AnswersQuery, query_plan}
 use Rattle.smc_replies.proofs.Replied.{IsOneReply, one-plan}
-use Rattle.smc_replies.proofs.Fronts.{later-calls}
 use Rattle.smc_replies.proofs.ObjectFronts.{inner-front}
 
 pub answers-one : (shape : Layout) (folds : List Word) (coll : ℕ) (tree : QueryTree) (kinds : List Kind) (first other rest behind : List CallEnd) (text said : List ℕ) → AnswersQuery shape folds coll tree kinds first text

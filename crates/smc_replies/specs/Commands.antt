@@ -73,7 +73,7 @@ pub record PacksTable (place : Place) (calls : List CallEnd) (text : List ℕ) :
 
 -- ---- commands
 
--- whether a command is run where the script was read with folds of these names: queries and edits are where they have a plan; a script with a command that is not is refused at its line
+-- whether a command is run, where folds of these names were handed in: queries and edits are where they have a plan
 abbrev pub is_known : List Word → CommandTree → Bool
 is_known folds (load place file) = true
 is_known folds (stat place) = true

@@ -22,16 +22,16 @@ use Rattle.smc_visits.specs.Rows.{Follows, ReadsLeaf, RefersTo, IsNull, RowOfVis
 pub first-done : (x y : CallEnd) (s t : List CallEnd) → (x ∷ s) ≡ (y ∷ t) → x.done ≡ y.done
 first-done x y s t is = let same : x ≡ y = cc in ap (λ (k : CallEnd). k.done) same
 
-first-event : (x y : CallEnd) (s t : List CallEnd) → (x ∷ s) ≡ (y ∷ t) → x.event ≡ y.event
+pub first-event : (x y : CallEnd) (s t : List CallEnd) → (x ∷ s) ≡ (y ∷ t) → x.event ≡ y.event
 first-event x y s t is = let same : x ≡ y = cc in ap (λ (k : CallEnd). k.event) same
 
 pub later-calls : (x y : CallEnd) (s t : List CallEnd) → (x ∷ s) ≡ (y ∷ t) → s ≡ t
 later-calls x y s t is = cc
 
-one-value : (value other : ℕ) → done.Value value ≡ done.Value other → value ≡ other
+pub one-value : (value other : ℕ) → done.Value value ≡ done.Value other → value ≡ other
 one-value value other is = cc
 
-null-is-not-here : (slot : ℕ) → done.Null ≡ done.Here slot → ⊥
+pub null-is-not-here : (slot : ℕ) → done.Null ≡ done.Here slot → ⊥
 null-is-not-here slot is = cc
 
 one-looked : (number other : Number) → Some (event.Look number true) ≡ Some (event.Look other true) → number ≡ other
@@ -136,18 +136,18 @@ row-front rest behind (reads_on words {row = row} {calls = calls} {rest = more} 
 
 -- ---- scans
 
-same-held : (x y : Held) → x.number ≡ y.number → x.slot ≡ y.slot → x ≡ y
+pub same-held : (x y : Held) → x.number ≡ y.number → x.slot ≡ y.slot → x ≡ y
 same-held x y number slot =
     ap (λ (n : Number). let one : Held = record { number = n; slot = x.slot } in one) number
     ∙ ap (λ (k : ℕ). let one : Held = record { number = y.number; slot = k } in one) slot
 
-visit-is-no-end : (number : Number) (slot : ℕ) → done.Visit number slot ≡ done.End → ⊥
+pub visit-is-no-end : (number : Number) (slot : ℕ) → done.Visit number slot ≡ done.End → ⊥
 visit-is-no-end number slot is = cc
 
-visit-number : (number other : Number) (slot place : ℕ) → done.Visit number slot ≡ done.Visit other place → number ≡ other
+pub visit-number : (number other : Number) (slot place : ℕ) → done.Visit number slot ≡ done.Visit other place → number ≡ other
 visit-number number other slot place is = cc
 
-visit-slot : (number other : Number) (slot place : ℕ) → done.Visit number slot ≡ done.Visit other place → slot ≡ place
+pub visit-slot : (number other : Number) (slot place : ℕ) → done.Visit number slot ≡ done.Visit other place → slot ≡ place
 visit-slot number other slot place is = cc
 
 -- a visit: the scan comes to an object, and these calls follow
