@@ -17,7 +17,7 @@ use Rattle.smc_core.specs.Count.{blocks_for, count_next, is_valid, no_count}
 use Rattle.smc_core.specs.Section.{epoch_of}
 use Rattle.smc_core.specs.Words.{back_of, dir_of}
 use Rattle.smc_region.specs.Callers.{Caller}
-use Rattle.smc_region.specs.Reached.{TookIn}
+use Rattle.smc_region.specs.Reached.{Took, TookIn}
 use Rattle.smc_region.proofs.TookLaws.{took-here, took-within}
 use Rattle.smc_compact.specs.declared.begun.Begun.TheVariants as begun
 use Rattle.smc_compact.specs.Counting.{counting_change, going, to_count}
