@@ -17,23 +17,15 @@ use Rattle.smc_core.specs.Count.{blocks_for, count_next, is_valid, no_count}
 use Rattle.smc_core.specs.Section.{epoch_of}
 use Rattle.smc_core.specs.Words.{back_of, dir_of}
 use Rattle.smc_region.specs.Callers.{Caller}
-use Rattle.smc_region.specs.Reached.{Took}
+use Rattle.smc_region.specs.Reached.{Took, TookIn}
+use Rattle.smc_region.proofs.TookLaws.{took-here, took-within}
 use Rattle.smc_compact.specs.declared.begun.Begun.TheVariants as begun
 use Rattle.smc_compact.specs.Counting.{counting_change, going, to_count}
-use Rattle.smc_compact.specs.Shown.{AllShown, Counts, CountsFor, CountsSlot, CountsTo, Loaded, Shows, ShowsIn, ShowsOwner, with_slot, with_slots}
-
--- the step that a load took
-pub loaded : (shape : Layout) (pass last : ℕ) (before next : Local) (there : Place) (seen : Word) → Took shape pass before (Load there) seen next → next.steps ≤ last
-    → Loaded shape pass before.steps last there seen
-loaded shape pass last before next there seen took within =
-    let one : next.steps ≡ before.steps + 1 = ap (λ (l : Local). l.steps) took.leads in
-    record { before = before; next = next; took = took; since = omega arith; until = omega (arith, one, within) }
+use Rattle.smc_compact.specs.Shown.{AllShown, Counts, CountsFor, CountsSlot, CountsTo, Shows, ShowsIn, ShowsOwner, with_slot, with_slots}
 
 module _ (shape : Layout) (pass first first' last' last : ℕ) (since : first ≤ first') (until : last' ≤ last) where
-  pub loaded-within : (there : Place) (seen : Word) → Loaded shape pass first' last' there seen → Loaded shape pass first last there seen
-  loaded-within there seen one =
-      let low = one.since in let high = one.until in
-      record { before = one.before; next = one.next; took = one.took; since = omega (arith, since, low); until = omega (arith, until, high) }
+  loaded-within : (there : Place) (seen : Word) → TookIn shape pass first' last' (Load there) seen → TookIn shape pass first last (Load there) seen
+  loaded-within there seen one = took-within shape pass first first' last' last (Load there) seen since until one
 
   pub owner-within : (slot : ℕ) (owner : Option Number) (has : Bool) → ShowsOwner shape pass first' last' slot owner has → ShowsOwner shape pass first last slot owner has
   owner-within slot None has shows = shows
@@ -110,7 +102,7 @@ slot-shown shape shape' pass pass' old middle last coll slot seen has same still
     let here : ShowsIn shape pass middle.steps last coll slot true has =
     subst (λ (k : Layout). ShowsIn k pass middle.steps last coll slot true has) same (subst (λ (k : ℕ). ShowsIn shape' k middle.steps last coll slot true has) still one) in (
       seen,
-      loaded shape pass last old middle (place.Directory coll slot) seen took until,
+      took-here shape pass last old middle (Load (place.Directory coll slot)) seen took until,
       subst (λ (b : Bool). ShowsIn shape pass old.steps last coll slot b has) (sym valid)
           (in-within shape pass old.steps middle.steps last last (omega (arith, step)) (omega arith) coll slot true has here),
     )

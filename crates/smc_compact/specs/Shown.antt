@@ -2,43 +2,33 @@
 use Rattle.std.specs.Prelude.{◌≡◌, ℕ, ◌+◌, ◌≤◌, ◌<◌, Bool, true, false, if◌then◌else◌, Option, Some, None, List, [], ◌∷◌, length}
 use Rattle.smc_words.specs.declared.number.Number.{Number}
 use Rattle.smc_shape.specs.Layout.{Layout, slots_of}
-use Rattle.smc_shape.specs.declared.place.Place.{Place}
 use Rattle.smc_shape.specs.declared.place.Place.TheVariants as place
-use Rattle.smc_core.specs.declared.local.Local.{Local}
 use Rattle.smc_core.specs.declared.op.Op.TheVariants.{Load}
 use Rattle.smc_core.specs.declared.phase.moves.Count.{Count}
 use Rattle.smc_core.specs.declared.word.Word.{Word}
 use Rattle.smc_core.specs.Count.{blocks_for, is_valid, no_count, with_object}
 use Rattle.smc_core.specs.Words.{back_of, dir_of, has_object_at, state_of}
 use Rattle.smc_region.specs.Callers.{Caller}
-use Rattle.smc_region.specs.Reached.{Took}
+use Rattle.smc_region.specs.Reached.{TookIn}
 use Rattle.smc_compact.specs.declared.begun.Begun.{Begun}
 use Rattle.smc_compact.specs.declared.begun.Begun.TheVariants as begun
-
--- at one of the steps behind so many and before so many, the pass loaded this word there
-pub record Loaded (shape : Layout) (pass first last : ℕ) (there : Place) (seen : Word) : Type 0 where
-  pub before : Local
-  pub next : Local
-  pub took : Took shape pass before (Load there) seen next
-  pub since : first ≤ before.steps
-  pub until : before.steps < last
 
 -- an object is in the slot, as the entry of the owner that the slot names showed; a slot without an owner has none
 abbrev pub ShowsOwner : Layout → ℕ → ℕ → ℕ → ℕ → Option Number → Bool → Type 0
 ShowsOwner shape pass first last slot None has = has ≡ false
 ShowsOwner shape pass first last slot (Some number) has =
-    (seen : Word) × Loaded shape pass first last (place.Entry number.coll number.entry) seen × (has ≡ has_object_at number.incarnation slot (state_of seen))
+    (seen : Word) × TookIn shape pass first last (Load (place.Entry number.coll number.entry)) seen × (has ≡ has_object_at number.incarnation slot (state_of seen))
 
 -- the owner of a slot decides where the slot is valid; in another one there is no object
 abbrev pub ShowsIn : Layout → ℕ → ℕ → ℕ → ℕ → ℕ → Bool → Bool → Type 0
 ShowsIn shape pass first last coll slot false has = has ≡ false
 ShowsIn shape pass first last coll slot true has =
-    (seen : Word) × Loaded shape pass first last (place.Back coll slot) seen × ShowsOwner shape pass first last slot (back_of seen) has
+    (seen : Word) × TookIn shape pass first last (Load (place.Back coll slot)) seen × ShowsOwner shape pass first last slot (back_of seen) has
 
 -- steps behind so many and before so many showed whether an object is in the slot
 abbrev pub Shows : Layout → ℕ → ℕ → ℕ → ℕ → ℕ → Bool → Type 0
 Shows shape pass first last coll slot has =
-    (seen : Word) × Loaded shape pass first last (place.Directory coll slot) seen × ShowsIn shape pass first last coll slot (is_valid (dir_of seen)) has
+    (seen : Word) × TookIn shape pass first last (Load (place.Directory coll slot)) seen × ShowsIn shape pass first last coll slot (is_valid (dir_of seen)) has
 
 -- they showed this of each slot from this one on
 abbrev pub AllShown : Layout → ℕ → ℕ → ℕ → ℕ → ℕ → List Bool → Type 0

@@ -5,6 +5,7 @@ use Rattle.std.proofs.lemmas.Bool.Decides.{nat_tests}
 use Rattle.smc_shape.specs.Layout.{Layout}
 use Rattle.smc_shape.specs.declared.place.Place.{Place}
 use Rattle.smc_core.specs.Ripe.{next_round}
+use Rattle.smc_region.proofs.TookLaws.{took-within}
 use Rattle.smc_objects.specs.Adding.{IsFirstFree, SawTaken, behind}
 
 -- the index behind the one that is so many behind
@@ -31,16 +32,7 @@ taken-within shape shape' pass pass' first first' last last' epoch epoch' there 
     subst (λ (k : Layout). SawTaken k pass first' last' epoch there) s
     (subst (λ (k : ℕ). SawTaken shape' k first' last' epoch there) n
     (subst (λ (k : ℕ). SawTaken shape' pass' first' last' k there) e taken)) in
-    record {
-      before = t.before;
-      op = t.op;
-      seen = t.seen;
-      here = t.here;
-      saw = t.saw;
-      since = omega (arith, since, t.since);
-      until = omega (arith, until, t.until);
-      is = t.is;
-    }
+    record { op = t.op; seen = t.seen; here = t.here; took = took-within shape pass first first' last' last t.op t.seen since until t.took; is = t.is }
 
 -- what was the first for a part of a call was it for the call
 pub first-within : (shape shape' : Layout) (pass pass' first first' last last' epoch epoch' many many' from index : ℕ) (there : ℕ → Place)

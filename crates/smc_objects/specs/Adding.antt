@@ -22,8 +22,7 @@ use Rattle.smc_core.specs.Ripe.{is_ripe_slot, is_ripe_entry, next_round}
 use Rattle.smc_core.specs.Row.{place_of}
 use Rattle.smc_core.specs.Step.{goes}
 use Rattle.smc_core.specs.Words.{dir_of, state_of, same_word}
-use Rattle.smc_region.specs.Reached.{Saw}
-use Rattle.smc_region.specs.Views.{one}
+use Rattle.smc_region.specs.Reached.{TookIn}
 
 -- an add of these words that has not made its object: what its last step has changed, when the pass has taken so many
 -- steps in all
@@ -66,13 +65,10 @@ IsTaken epoch there (MarkGone coll entry) w = ⊥
 
 -- at a step behind so many and before so many, the pass saw there what it could not claim
 pub record SawTaken (shape : Layout) (pass first last epoch : ℕ) (there : Place) : Type 0 where
-  pub before : Local
   pub op : Op
   pub seen : Word
   pub here : place_of op ≡ there
-  pub saw : Saw (one shape pass before) op seen
-  pub since : first ≤ before.steps
-  pub until : before.steps < last
+  pub took : TookIn shape pass first last op seen
   pub is : IsTaken epoch there op seen
 
 -- the index that is so many behind this one, round to the front

@@ -1,56 +1,20 @@
--- How a scan goes on, and what its look-ups find.
+-- How a scan goes on.
 use Rattle.std.specs.Prelude.{ℕ, ◌+◌, ◌*◌, nat_lt, Bool, Option, Some, None, [], ◌∷◌, ◌++◌, length, slice_get, if◌then◌else◌}
 use Rattle.smc_words.specs.declared.number.Number.{Number}
 use Rattle.smc_shape.specs.Layout.{Layout, slots_of, width_of}
 use Rattle.smc_model.specs.declared.event.Event.TheVariants as event
-use Rattle.smc_core.specs.declared.call.Choice.TheVariants.{Go}
 use Rattle.smc_core.specs.declared.done.Done.TheVariants as done
 use Rattle.smc_core.specs.declared.local.Local.{Local}
 use Rattle.smc_core.specs.declared.phase.Phase.{Phase}
 use Rattle.smc_core.specs.declared.phase.Phase.TheVariants as phase
-use Rattle.smc_core.specs.declared.phase.objects.Finding.{Finding}
-use Rattle.smc_core.specs.declared.phase.objects.Finding.TheVariants.{Absent, Stays}
-use Rattle.smc_core.specs.declared.phase.objects.LookPhase.TheVariants as look
 use Rattle.smc_core.specs.declared.phase.objects.ScanPhase.TheVariants as scan
-use Rattle.smc_core.specs.declared.phase.objects.Seeker.{Seeker}
-use Rattle.smc_core.specs.Local.{logged, answered, held_after}
-use Rattle.smc_core.specs.Look.{look_change, copy_field}
-use Rattle.smc_core.specs.Scan.{passed, ended, look_scans}
+use Rattle.smc_core.specs.Scan.{passed, ended}
 use Rattle.smc_region.specs.declared.held.Held.{Held}
 use Rattle.smc_region.specs.Choices.{number_of}
 
 -- the number of the section's scan with this index
 abbrev pub number_at : Local → ℕ → ℕ
 number_at l index = number_of (slice_get l.stand.scans index)
-
--- what a look-up has learnt that answers this
-abbrev pub finding_of : Option ℕ → Finding
-finding_of None = Absent
-finding_of (Some slot) = Stays slot
-
--- a look-up of this seeker that has learnt this, when the pass has taken so many steps in all
-abbrev pub learning : Layout → Local → Seeker → Number → Finding → ℕ → Local
-learning shape l who number finding steps = let made = look_change shape who number finding in record {
-  stand = record l.stand { phase = made.phase; held = held_after l.stand.held Go made.holds; scans = look_scans l.stand.scans who finding };
-  log = logged l.log made.event;
-  answers = answered l.answers (length (logged l.log made.event)) made.answer;
-  notes = l.notes;
-  learnt = l.learnt;
-  cursors = l.cursors;
-  steps = steps;
-}
-
--- a look-up that helps to move the object, when so many fields are dealt with
-abbrev pub helping : Layout → Local → Seeker → Number → ℕ → ℕ → ℕ → Local
-helping shape l who number slot target field = record {
-  stand = record l.stand { phase = phase.Look (look.Help who number slot (copy_field shape number.coll target field)) };
-  log = l.log;
-  answers = l.answers;
-  notes = l.notes;
-  learnt = l.learnt;
-  cursors = l.cursors;
-  steps = l.steps + 1 + 2 * field;
-}
 
 -- the scan goes on at this slot, or, where it has passed each, to its end
 abbrev pub to_scan : Layout → ℕ → ℕ → ℕ → Phase

@@ -14,8 +14,7 @@ use Rattle.smc_core.specs.Row.{place_of}
 use Rattle.smc_core.specs.Words.{is_gone, state_of}
 use Rattle.smc_region.specs.declared.held.Held.{Held}
 use Rattle.smc_region.specs.Callers.{Caller}
-use Rattle.smc_region.specs.Reached.{Saw}
-use Rattle.smc_region.specs.Views.{one}
+use Rattle.smc_region.specs.Reached.{Took}
 
 -- the section holds the object there
 abbrev pub Holds : Caller → Held → Type 0
@@ -40,12 +39,11 @@ removed first = if first then done.First else done.Late
 abbrev pub remove_steps : Bool → ℕ
 remove_steps first = if first then 3 else 1
 
--- at the step behind so many others the pass saw that the object was gone, or that it was not
-pub record SawGone (pass : Caller) (steps : ℕ) (number : Number) (gone : Bool) : Type 0 where
-  pub before : Local
+-- at its next step the pass saw that the object was gone, or that it was not
+pub record SawGone (pass : Caller) (number : Number) (gone : Bool) : Type 0 where
   pub op : Op
   pub seen : Word
+  pub next : Local
   pub here : place_of op ≡ place.Entry number.coll number.entry
-  pub saw : Saw (one pass.shape pass.number before) op seen
-  pub at : before.steps ≡ steps
+  pub took : Took pass.shape pass.number pass.local op seen next
   pub is : is_gone (state_of seen) ≡ gone

@@ -10,7 +10,7 @@ ghost use Rattle.smc_does.specs.Does.{Does, DoesSome, IsHeld, Stays};
 ghost use Rattle.smc_objects.specs.Alone.{AddsRow, AdvancesThrice, CountsObjects, InSection, ReadsObject, RemovesObject, SetsField, TriesAdd, reads_all};
 
 use crate::adding::{Full, add};
-use crate::fields::{read, write};
+use crate::field::{read, write};
 use crate::removal::remove;
 use crate::scan::Scan;
 use smc_region::{Held, Pass, Region, Section};

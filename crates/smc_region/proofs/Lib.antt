@@ -15,3 +15,5 @@ pub mod RangeLaws
 pub mod CursorLaws
 pub mod NamedLaws
 pub mod OwnerLaws
+pub mod TookLaws
+mod LookLaws

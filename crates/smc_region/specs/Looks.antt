@@ -4,15 +4,22 @@ use Rattle.smc_words.specs.declared.number.Number.{Number}
 use Rattle.smc_shape.specs.Layout.{Layout}
 use Rattle.smc_shape.specs.declared.place.Place.TheVariants as place
 use Rattle.smc_model.specs.declared.event.Event.TheVariants as event
+use Rattle.smc_core.specs.declared.call.Choice.TheVariants.{Go}
 use Rattle.smc_core.specs.declared.done.Done.TheVariants as done
 use Rattle.smc_core.specs.declared.local.Local.{Local}
 use Rattle.smc_core.specs.declared.op.Op.{Op}
+use Rattle.smc_core.specs.declared.phase.Phase.{Phase}
 use Rattle.smc_core.specs.declared.phase.Phase.TheVariants as phase
+use Rattle.smc_core.specs.declared.phase.objects.Finding.{Finding}
+use Rattle.smc_core.specs.declared.phase.objects.Finding.TheVariants.{Absent, Stays}
 use Rattle.smc_core.specs.declared.phase.objects.LookPhase.TheVariants as look
+use Rattle.smc_core.specs.declared.phase.objects.Seeker.{Seeker}
 use Rattle.smc_core.specs.declared.phase.objects.Seeker.TheVariants as seeker
 use Rattle.smc_core.specs.declared.word.Word.{Word}
-use Rattle.smc_core.specs.Look.{copy_field}
+use Rattle.smc_core.specs.Local.{answered, held_after, logged}
+use Rattle.smc_core.specs.Look.{copy_field, look_change, seeker_of}
 use Rattle.smc_core.specs.Row.{place_of, has_place}
+use Rattle.smc_core.specs.Scan.{look_scans}
 use Rattle.smc_core.specs.Words.{has_object, state_of}
 use Rattle.smc_region.specs.declared.held.Held.{Held}
 use Rattle.smc_region.specs.Callers.{Caller}
@@ -66,10 +73,37 @@ pub record SawPresent (pass : Caller) (number : Number) (present : Bool) : Type 
 abbrev pub Decided : Caller → Number → Bool → Type 0
 Decided pass number present = SawPresent pass number present ⊎ ((has_place pass.shape (place.Entry number.coll number.entry) ≡ false) × (present ≡ false))
 
--- a look-up that helps to move the object, when so many fields are dealt with
-abbrev pub helping : Layout → Local → Number → ℕ → ℕ → ℕ → Local
-helping shape l number slot target field = record {
-  stand = record l.stand { phase = phase.Look (look.Help seeker.Caller number slot (copy_field shape number.coll target field)) };
+-- who looks in this phase; where no look-up is in progress it is the caller
+abbrev pub looker : Phase → Seeker
+looker (phase.Look looking) = seeker_of looking
+looker _ = seeker.Caller
+
+-- before the first step of a look-up: a caller's starts with it, and a scan's goes on with the call in progress
+abbrev pub before_look : Bool → Seeker → Number → Phase
+before_look true who number = phase.Idle
+before_look false who number = phase.Look (look.Load who number)
+
+-- what a look-up has learnt that answers this
+abbrev pub finding_of : Option ℕ → Finding
+finding_of None = Absent
+finding_of (Some slot) = Stays slot
+
+-- a look-up of this seeker that has learnt this, when the pass has taken so many steps in all
+abbrev pub looking : Layout → Local → Seeker → Number → Finding → ℕ → Local
+looking shape l who number finding steps = let made = look_change shape who number finding in record {
+  stand = record l.stand { phase = made.phase; held = held_after l.stand.held Go made.holds; scans = look_scans l.stand.scans who finding };
+  log = logged l.log made.event;
+  answers = answered l.answers (length (logged l.log made.event)) made.answer;
+  notes = l.notes;
+  learnt = l.learnt;
+  cursors = l.cursors;
+  steps = steps;
+}
+
+-- one that helps to move the object, when so many fields are dealt with
+abbrev pub helping : Layout → Local → Seeker → Number → ℕ → ℕ → ℕ → Local
+helping shape l who number slot target field = record {
+  stand = record l.stand { phase = phase.Look (look.Help who number slot (copy_field shape number.coll target field)) };
   log = l.log;
   answers = l.answers;
   notes = l.notes;

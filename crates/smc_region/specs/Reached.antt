@@ -1,5 +1,5 @@
 -- What a step on the table rests on: the region is in a state that the machine reaches.
-use Rattle.std.specs.Prelude.{◌≡◌, ◌⊎◌, ℕ, Some, List, slice_get}
+use Rattle.std.specs.Prelude.{◌≡◌, ◌⊎◌, ℕ, ◌≤◌, ◌<◌, Some, List, slice_get}
 use Rattle.std.specs.List.{AllByRecursion}
 use Rattle.smc_shape.specs.Layout.{Layout, IsShape}
 use Rattle.smc_shape.specs.declared.place.Place.TheVariants as place
@@ -65,3 +65,12 @@ pub record Took (shape : Layout) (pass : ℕ) (before : Local) (op : Op) (seen :
   pub offered : op_of (local_offer shape pass before choice) ≡ Some op
   pub saw : Saw (one shape pass before) op seen
   pub leads : next ≡ after shape pass before choice 0 seen
+
+-- a step of a call: one behind so many own steps of the pass and before so many was this operation, and showed this word. Every cause that
+-- is to lie within a call is told by it
+pub record TookIn (shape : Layout) (pass first last : ℕ) (op : Op) (seen : Word) : Type 0 where
+  pub before : Local
+  pub next : Local
+  pub took : Took shape pass before op seen next
+  pub since : first ≤ before.steps
+  pub until : before.steps < last

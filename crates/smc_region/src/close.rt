@@ -25,12 +25,14 @@ impl Model for Quiet {
     ghost use Rattle.std.specs.Slots.{slots_items, slots_len, IsFull};
     ghost use Rattle.smc_shape.specs.Layout.{words_of};
     ghost use Rattle.smc_region.specs.Ends.{Ended, states_of};
+    ghost use Rattle.smc_region.specs.Reached.{IsReached};
 
     ghost Value = { Ended };
 
     ghost view = { λ q. record { shape = q.about.shape; opening = q.about.opening; words = slots_items q.closed.words; locals = states_of q.last.value.me.0.locals } };
 
-    ghost invariant = { λ q. IsFull q.closed.words × IsFull q.closed.slots × (slots_len q.closed.words ≡ words_of q.about.shape) × (slots_len q.closed.slots ≡ 0) };
+    ghost invariant = { λ q. IsFull q.closed.words × IsFull q.closed.slots × (slots_len q.closed.words ≡ words_of q.about.shape) × (slots_len q.closed.slots ≡ 0)
+        × IsReached q.about.shape q.about.opening (slots_items q.closed.words) (states_of q.last.value.me.0.locals) };
 }
 
 impl Region {
@@ -73,7 +75,8 @@ impl Region {
 impl Quiet {
     /// What the region is made of.
     pub fn shape(&self) -> &Shape
-        ensures { result.now ≡ self.now.shape }
+        ensures shape { result.now ≡ self.now.shape }
+        ensures reached { IsReached self.now.shape self.now.opening self.now.words self.now.locals }
     {
         &self.about.shape
     }

@@ -1,14 +1,16 @@
 //! A look-up, with the help that it gives to a move.
-ghost use Rattle.std.specs.Prelude.{◌≡◌, ◌+◌, ◌*◌, ◌≤◌, true, false, IfSome, Some, None, is_some};
+ghost use Rattle.std.specs.Prelude.{◌≡◌, ◌+◌, ◌*◌, ◌≤◌, true, false, IfSome, IsTrue, Some, None, is_some};
 ghost use Rattle.smc_core.specs.declared.phase.Phase.TheVariants as phase;
 ghost use Rattle.smc_core.specs.declared.phase.objects.LookPhase.TheVariants as look;
-ghost use Rattle.smc_core.specs.declared.phase.objects.Seeker.TheVariants as seeker;
+ghost use Rattle.smc_core.specs.Look.{find};
 ghost use Rattle.smc_core.specs.Offer.{held_slot};
 ghost use Rattle.smc_core.specs.Row.{has_place};
+ghost use Rattle.smc_core.specs.Section.{is_calm};
+ghost use Rattle.smc_core.specs.Words.{has_object};
 ghost use Rattle.smc_shape.specs.Layout.{width_of};
 ghost use Rattle.smc_shape.specs.declared.place.Place.TheVariants as place;
 ghost use Rattle.smc_region.specs.Callers.{IsSame};
-ghost use Rattle.smc_region.specs.Looks.{LooksUp, Decided, SawPresent, slot_found};
+ghost use Rattle.smc_region.specs.Looks.{LooksUp, Decided, SawPresent, before_look, finding_of, looker, looking, slot_found};
 
 use crate::chosen::Chosen;
 use crate::held::Held;
@@ -32,7 +34,7 @@ impl<'r> Section<'r> {
         ensures holds { IfSome result (λ held. held_slot self.new.local.stand.held number ≡ Some held.place) }
     {
         let found = if self.has_entry(number) {
-            self.look(number)
+            self.look::<true>(number)
         } else {
             self.pass_over(number)
         };
@@ -75,24 +77,55 @@ impl<'r> Section<'r> {
         None
     }
 
-    /// The slot of the object, by the state of its entry.
+    /// Goes on with a scan that has come to the owner of a slot: looks it up. Answers the slot in which it is, if it is here.
     #[inline]
-    fn look(&mut self, number: Number) -> Option<u32>
-        requires idle { self.old.local.stand.phase ≡ phase.Idle }
-        requires some { has_place self.old.shape (place.Entry number.coll number.entry) ≡ true }
+    pub fn seek(&mut self, number: Number) -> Option<u32>
+        requires phase { self.old.local.stand.phase ≡ phase.Look (look.Load (looker self.old.local.stand.phase) number) }
         ensures same { IsSame self.old self.new }
         ensures few { self.new.local.steps ≤ self.old.local.steps + 4 + 2 * width_of self.old.shape number.coll }
-        ensures looks { LooksUp result number self.old.local self.new.local }
+        ensures learnt { self.new.local ≡ looking self.old.shape self.old.local (looker self.old.local.stand.phase) number (finding_of result) self.new.local.steps }
         ensures decided { SawPresent self.new number (is_some result) }
     {
-        let calm = self.calm;
+        self.look::<false>(number)
+    }
+
+    /// The first step of a look-up: loads the entry.
+    #[inline(always)]
+    fn see_entry<const STARTS: bool>(&mut self, number: Number) -> State
+        requires phase { self.old.local.stand.phase ≡ before_look STARTS (looker self.old.local.stand.phase) number }
+        requires some { IsTrue STARTS → has_place self.old.shape (place.Entry number.coll number.entry) ≡ true }
+        ensures same { IsSame self.old self.new }
+        ensures learnt { self.new.local ≡ looking self.old.shape self.old.local (looker self.old.local.stand.phase) number
+            (find (is_calm self.old.local.stand.section) number.incarnation result) (self.old.local.steps + 1) }
+        ensures decided { SawPresent self.new number (has_object number.incarnation result) }
+    {
         let load = Op::Load {
             place: Place::Entry {
                 coll: number.coll,
                 entry: number.entry,
             },
         };
-        match self.take(Chosen::Look { number }, load).state() {
+        let chosen = if STARTS {
+            Chosen::Look { number }
+        } else {
+            Chosen::Go
+        };
+        let _ = self.calm();
+        self.take(chosen, load).state()
+    }
+
+    /// The slot of the object, by the state of its entry.
+    #[inline]
+    fn look<const STARTS: bool>(&mut self, number: Number) -> Option<u32>
+        requires phase { self.old.local.stand.phase ≡ before_look STARTS (looker self.old.local.stand.phase) number }
+        requires some { IsTrue STARTS → has_place self.old.shape (place.Entry number.coll number.entry) ≡ true }
+        ensures same { IsSame self.old self.new }
+        ensures few { self.new.local.steps ≤ self.old.local.steps + 4 + 2 * width_of self.old.shape number.coll }
+        ensures learnt { self.new.local ≡ looking self.old.shape self.old.local (looker self.old.local.stand.phase) number (finding_of result) self.new.local.steps }
+        ensures decided { SawPresent self.new number (is_some result) }
+    {
+        let calm = self.calm();
+        match self.see_entry::<STARTS>(number) {
             State::Present { incarnation, slot } => {
                 if incarnation == number.incarnation {
                     Some(slot)
@@ -124,10 +157,10 @@ impl<'r> Section<'r> {
 
     /// The slot of the object, by the state of its entry when its move was to be abandoned.
     fn abandon(&mut self, number: Number, slot: u32) -> Option<u32>
-        requires phase { self.old.local.stand.phase ≡ phase.Look (look.Abandon seeker.Caller number slot) }
+        requires phase { self.old.local.stand.phase ≡ phase.Look (look.Abandon (looker self.old.local.stand.phase) number slot) }
         ensures same { IsSame self.old self.new }
         ensures few { self.new.local.steps ≤ self.old.local.steps + 3 + 2 * width_of self.old.shape number.coll }
-        ensures looks { LooksUp result number self.old.local self.new.local }
+        ensures learnt { self.new.local ≡ looking self.old.shape self.old.local (looker self.old.local.stand.phase) number (finding_of result) self.new.local.steps }
         ensures decided { SawPresent self.new number (is_some result) }
     {
         let incarnation = number.incarnation;

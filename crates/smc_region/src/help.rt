@@ -3,10 +3,9 @@ ghost use Rattle.std.specs.Prelude.{◌≡◌, ◌+◌, ◌*◌, ◌≤◌, is_s
 ghost use Rattle.smc_core.specs.declared.phase.Phase.TheVariants as phase;
 ghost use Rattle.smc_core.specs.declared.phase.objects.CopyPhase.TheVariants as copy;
 ghost use Rattle.smc_core.specs.declared.phase.objects.LookPhase.TheVariants as look;
-ghost use Rattle.smc_core.specs.declared.phase.objects.Seeker.TheVariants as seeker;
 ghost use Rattle.smc_shape.specs.Layout.{width_of};
 ghost use Rattle.smc_region.specs.Callers.{IsSame};
-ghost use Rattle.smc_region.specs.Looks.{LooksUp, SawPresent, helping};
+ghost use Rattle.smc_region.specs.Looks.{SawPresent, finding_of, helping, looker, looking};
 
 use crate::chosen::Chosen;
 use crate::section::Section;
@@ -17,9 +16,9 @@ use smc_words::{BLANK, Number};
 impl<'r> Section<'r> {
     /// The target of a move of the object, once each field is copied there.
     fn copy(&mut self, number: Number, slot: u32) -> u32
-        requires phase { self.old.local.stand.phase ≡ phase.Look (look.Help seeker.Caller number slot copy.Target) }
+        requires phase { self.old.local.stand.phase ≡ phase.Look (look.Help (looker self.old.local.stand.phase) number slot copy.Target) }
         ensures same { IsSame self.old self.new }
-        ensures copied { self.new.local ≡ helping self.old.shape self.old.local number slot result (width_of self.old.shape number.coll) }
+        ensures copied { self.new.local ≡ helping self.old.shape self.old.local (looker self.old.local.stand.phase) number slot result (width_of self.old.shape number.coll) }
     {
         let coll = number.coll;
         let load = Op::Load {
@@ -48,10 +47,10 @@ impl<'r> Section<'r> {
 
     /// Helps to move the object away from this slot. Answers where it then is, if it is present.
     pub(crate) fn help(&mut self, number: Number, slot: u32) -> Option<u32>
-        requires phase { self.old.local.stand.phase ≡ phase.Look (look.Help seeker.Caller number slot copy.Target) }
+        requires phase { self.old.local.stand.phase ≡ phase.Look (look.Help (looker self.old.local.stand.phase) number slot copy.Target) }
         ensures same { IsSame self.old self.new }
         ensures few { self.new.local.steps ≤ self.old.local.steps + 2 + 2 * width_of self.old.shape number.coll }
-        ensures looks { LooksUp result number self.old.local self.new.local }
+        ensures learnt { self.new.local ≡ looking self.old.shape self.old.local (looker self.old.local.stand.phase) number (finding_of result) self.new.local.steps }
         ensures decided { SawPresent self.new number (is_some result) }
     {
         let target = self.copy(number, slot);

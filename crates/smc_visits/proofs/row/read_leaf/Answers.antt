@@ -11,10 +11,10 @@ returns-in_default-clause-done c =
 pub returns-then-not-has_width-clause-done : goal.returns-then-not-has_width-clause-done
 returns-then-not-has_width-clause-done c =
     let f = c.in-Some.ensures.done in
-    (f.0, f.1, wrong_table (rw c.as_slice.ensures at f.2) (rw f.1.same.1 at c.if-not-has_width.ensures))
+    (f.0, f.1, wrong_table (rw c.as_slice.ensures at f.2) (c.if-not-has_width.ensures c.args.s.now.shape c.in-Some.ensures.holds.1))
 
 pub returns-clause-done : goal.returns-clause-done
 returns-clause-done c =
     let f = c.in-Some.ensures.done in
     let column = c.read_column.ensures in
-    (_, does-then f.1 column.done, reads_column (rw c.as_slice.ensures at f.2) (rw f.1.same.1 at c.if-not-has_width.ensures) (column.long ∙ c.requires.long))
+    (_, does-then f.1 column.done, reads_column (rw c.as_slice.ensures at f.2) (c.if-not-has_width.ensures c.args.s.now.shape c.in-Some.ensures.holds.1) (column.long ∙ c.requires.long))

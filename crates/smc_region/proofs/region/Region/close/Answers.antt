@@ -1,4 +1,4 @@
-use Rattle.std.proofs.Common.{List, [], ◌∷◌, ◌++◌, length, length-append, append_assoc, ap, ◌∙◌, arith}
+use Rattle.std.proofs.Common.{rules, List, [], ◌∷◌, ◌++◌, length, length-append, append_assoc, ap, ◌∙◌, arith}
 use Rattle.std.specs.Slots.{slots_items}
 use Rattle.smc_region.specs.Callers.{Caller}
 use Rattle.smc_region.specs.Ends.{locals_of, states_of}
@@ -63,3 +63,6 @@ returns-clause-reached c =
     let end = c.close_with-closed.ensures.values.2 in
     rw c.of-last.ensures (reached_at_end c.args.self.table.shared.key c.args.self.about c.loop-pass.seat.id c.args.passes.items c.loop-pass.seat.me (slots_items c.close_with-closed.result.words) end.0
     c.args.self.keyed c.requires.all.0 seat end.1 end.2)
+
+pub invariant_of-result : goal.invariant_of-result
+invariant_of-result c = (search rules, search rules, search rules, search rules, returns-clause-reached c)

@@ -4,7 +4,7 @@ use Rattle.smc_core.specs.declared.done.Done.TheVariants as done
 use Rattle.smc_does.specs.Does.{pair_of}
 use Rattle.smc_does.proofs.HeldLaws.{held-once}
 use Rattle.smc_objects.proofs.ToldLaws.{told-does, told-stays}
-use Rattle.smc_objects.proofs.fields.write.Goals as goal
+use Rattle.smc_objects.proofs.field.write.Goals as goal
 
 pub store-requires-clause-held : goal.store-requires-clause-held
 store-requires-clause-held c = let s = c.args.s.now in held-once s.shape s.number s.local c.stands.ensures (pair_of c.args.h) c.requires.good
