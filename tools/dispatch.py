@@ -21,7 +21,7 @@ def binders(k):
 
 def field(k):
     pre = "".join(q + " → " for q in k["pre"])
-    return (f"  -- kind {k['no']}\n  pub {k['name']} : (sh : Layout) (st : S.State) (p : ℕ){binders(k)} (told : ℕ) → p < sh.passes → (st.stands p).section ≡ {strip(k['sec'])} → (st.stands p).phase ≡ {strip(k['call'])}"
+    return (f"  -- kind {k['step']}\n  pub {k['name']} : (sh : Layout) (st : S.State) (p : ℕ){binders(k)} (told : ℕ) → p < sh.passes → (st.stands p).section ≡ {strip(k['sec'])} → (st.stands p).phase ≡ {strip(k['call'])}"
             f" → {pre}Shut sh st → H sh st\n      → P sh (did sh st p {k['choice']} {k['sec']} {k['call']} told {k['op']})\n")
 
 

@@ -76,7 +76,7 @@ def lemma(k, part):
     pres = "".join(f" pre{i + 1}" for i in range(len(k["pre"])))
     more = MORE.get(part, "Nothing sh st")
     first = "(opened : ℕ) " if part == "records" else ""
-    out = f"-- kind {k['no']}\npub {k['name']} : {first}(sh : Layout) (st : S.State) (p : ℕ){binders(k)}{learns} → p < sh.passes → (st.stands p).section ≡ {strip(k['sec'])} → (st.stands p).phase ≡ {strip(k['call'])} → {pre}Shut sh st → {more}\n"
+    out = f"-- kind {k['step']}\npub {k['name']} : {first}(sh : Layout) (st : S.State) (p : ℕ){binders(k)}{learns} → p < sh.passes → (st.stands p).section ≡ {strip(k['sec'])} → (st.stands p).phase ≡ {strip(k['call'])} → {pre}Shut sh st → {more}\n"
     out += f"    → {record} sh (did sh st p {k['choice']} {k['sec']} {k['call']} told {k['op']})\n"
     opened = "opened " if part == "records" else ""
     out += f"{k['name']} {opened}sh st p{names} told in_n at_sec at_call{pres} h {'r' if part in MORE else '_'} ="

@@ -124,7 +124,7 @@ def term(k, f):
 def lemma(k):
     step = f"{k['choice']} {k['sec']} {k['call']} told {k['op']}"
     pre = "".join(q + " → " for q in k["pre"])
-    out = (f"-- kind {k['no']}\npub {k['name']} : (ms : ℕ → Marks) (sh : Layout) (st : S.State) (p : ℕ){binders(k)} (told : ℕ) → p < sh.passes → (st.stands p).section ≡ {strip(k['sec'])} → (st.stands p).phase ≡ {strip(k['call'])}"
+    out = (f"-- kind {k['step']}\npub {k['name']} : (ms : ℕ → Marks) (sh : Layout) (st : S.State) (p : ℕ){binders(k)} (told : ℕ) → p < sh.passes → (st.stands p).section ≡ {strip(k['sec'])} → (st.stands p).phase ≡ {strip(k['call'])}"
            f" → {pre}Shut sh st → ScansAgree sh st → MarksAgree sh st ms → IsHere st\n    → KeepsMarks ms sh st p {step}\n")
     out += f"{k['name']} ms sh st p{args(k)} told in_n at_sec at_call{pres(k)} h r mk hr ="
     body = "record {\n" + "".join(f"  {f} = λ {FACTS[f][0]}. {term(k, f)};\n" for f in FACTS) + "}"

@@ -16,7 +16,7 @@ ghost use Rattle.smc_core.specs.Offer.{held_slot};
 ghost use Rattle.smc_rules.specs.Reads.{object};
 ghost use Rattle.smc_region.specs.Callers.{IsPassOf, IsSame};
 
-use smc_core::{Op, Opening, State, Word};
+use smc_core::{Kind, Op, Opening, State, Word};
 use smc_region::{Act, Chosen, Held, Pass, Region, Section};
 use smc_shape::{CollShape, Place, Shape};
 use smc_words::{Dir, Number};
@@ -56,7 +56,7 @@ fn read_fields(section: &mut Section<'_>, held: Held, first: usize, width: u32, 
     for _ in 0..turns {
         for field in 0..width {
             let load = Act {
-                kind: 19,
+                kind: Kind::LoadField,
                 word: first + field as usize * stride,
                 expect: 0,
                 put: 0,

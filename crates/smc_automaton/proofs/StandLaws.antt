@@ -47,6 +47,7 @@ use Rattle.smc_core.specs.Section.{epoch_of, is_calm, entering_offer, entering_s
 use Rattle.std.proofs.lemmas.Bool.{eqb-false}
 use Rattle.smc_model.specs.declared.event.Event.TheVariants as event
 use Rattle.smc_core.specs.declared.done.Done.TheVariants as done
+use Rattle.smc_core.specs.declared.kind.Kind.TheVariants as kind
 use Rattle.smc_core.specs.declared.op.Op.TheVariants.{Load}
 use Rattle.smc_core.specs.Step.{step, when, goes, ends, tells}
 use Rattle.smc_core.specs.Begin.{round_seen}
@@ -207,7 +208,7 @@ module _ (shape : Layout) (pass : ℕ) (stand : Stand) (valid : IsShape shape) w
   look_started-fits : (calm : Bool) (number : Number) (w : Word) → FitsSeen (look_start shape pass number).op w → ChangeFits shape stand.words (look_started shape calm number w)
   look_started-fits calm number w seen = by_place (has_place shape (place.Entry number.coll number.entry)) seen
     where
-      by_place : (here : Bool) → FitsSeen (if here then look_offer (look.Load seeker.Caller number) else step 8 (Load (place.Section pass))).op w
+      by_place : (here : Bool) → FitsSeen (if here then look_offer (look.Load seeker.Caller number) else step kind.LoadSection (Load (place.Section pass))).op w
           → ChangeFits shape stand.words (if here then looking_change shape calm (look.Load seeker.Caller number) w else tells (event.Look number false) done.Null)
       by_place true there = looking-fits shape stand.words valid calm (look.Load seeker.Caller number) w tt there
       by_place false there = (tt, tt)

@@ -9,7 +9,7 @@ use crate::claim::{entry_seen, next_entry, next_slot, refuses, slot_seen};
 use crate::op::{back, directory, entry_at, entry_of, exchange, field_of, load, present, store};
 use crate::size::width_of;
 use crate::step::{goes, tells};
-use smc_core::{AddPhase, Change, Choice, Done, Offer, Phase, State, Word};
+use smc_core::{AddPhase, Change, Choice, Done, Kind, Offer, Phase, State, Word};
 use smc_model::{Cause, Event, Record};
 use smc_shape::Shape;
 use smc_words::{Dir, NoMemory, Number};
@@ -21,24 +21,24 @@ pub(crate) fn add_offer(shape: &Shape, words: &Record, next: AddPhase) -> Offer
     ensures { result ≡ add_offer words.now next }
 {
     match next {
-        AddPhase::FindSlot { coll, slot, .. } => load(10, directory(coll, slot)),
+        AddPhase::FindSlot { coll, slot, .. } => load(Kind::LoadDirectory, directory(coll, slot)),
         AddPhase::ClaimSlot {
             coll,
             slot,
             seen,
             ..
         } => exchange(
-            11,
+            Kind::ClaimSlot,
             directory(coll, slot),
             Word::Directory(seen),
             Word::Directory(Dir::Claimed),
         ),
         AddPhase::DropSlot { coll, slot } => store(
-            12,
+            Kind::DropSlot,
             directory(coll, slot),
             Word::Directory(Dir::Free),
         ),
-        AddPhase::FindEntry { coll, entry, .. } => load(13, entry_at(coll, entry)),
+        AddPhase::FindEntry { coll, entry, .. } => load(Kind::LoadEntry, entry_at(coll, entry)),
         AddPhase::ClaimEntry {
             coll,
             entry,
@@ -46,7 +46,7 @@ pub(crate) fn add_offer(shape: &Shape, words: &Record, next: AddPhase) -> Offer
             stamp,
             ..
         } => exchange(
-            14,
+            Kind::ClaimEntry,
             entry_at(coll, entry),
             Word::Entry(State::Free { incarnation, stamp }),
             Word::Entry(State::Claimed {
@@ -54,7 +54,7 @@ pub(crate) fn add_offer(shape: &Shape, words: &Record, next: AddPhase) -> Offer
             }),
         ),
         AddPhase::StoreBack { slot, number } => store(
-            15,
+            Kind::StoreBack,
             back(number.coll, slot),
             Word::Back(Some(number)),
         ),
@@ -63,16 +63,20 @@ pub(crate) fn add_offer(shape: &Shape, words: &Record, next: AddPhase) -> Offer
             number,
             field,
         } => store(
-            16,
+            Kind::StoreField,
             field_of(number.coll, slot, field),
             Word::Plain(words.words()[field as usize]),
         ),
         AddPhase::StoreValid { slot, number } => store(
-            17,
+            Kind::StoreValid,
             directory(number.coll, slot),
             Word::Directory(Dir::Valid),
         ),
-        AddPhase::StoreLive { slot, number } => store(18, entry_of(number), present(number, slot)),
+        AddPhase::StoreLive { slot, number } => store(
+            Kind::StoreLive,
+            entry_of(number),
+            present(number, slot),
+        ),
     }
 }
 

@@ -15,7 +15,9 @@ use crate::walk::{
     blank_field, first_walk, next_source, past_target, source_owner, to_source, to_target,
     with_move,
 };
-use smc_core::{BeginPhase, Change, Count, Counting, Done, LAST_EPOCH, Offer, Phase, Walk, Word};
+use smc_core::{
+    BeginPhase, Change, Count, Counting, Done, Kind, LAST_EPOCH, Offer, Phase, Walk, Word,
+};
 use smc_shape::{BLOCK_SLOTS, Place, Shape};
 use smc_words::{BLANK, Dir, ENTRIES, Number, RoundWord};
 
@@ -25,7 +27,7 @@ pub(crate) fn round_offer(pass: u32, epoch: u64, coll: u8) -> Offer
     ensures { result ≡ round_offer pass epoch coll }
 {
     exchange(
-        26,
+        Kind::OpenRound,
         Place::Round,
         Word::Round(None),
         Word::Round(Some(RoundWord {
@@ -57,39 +59,45 @@ pub(crate) fn begin_offer(epoch: u64, next: BeginPhase) -> Offer
 {
     match next {
         BeginPhase::Count(next) => count_offer(next),
-        BeginPhase::Nothing { .. } => store(36, Place::Round, Word::Round(None)),
-        BeginPhase::SourceDirectory(walk) => load(10, directory(walk.coll, walk.source)),
-        BeginPhase::SourceBack(walk) => load(24, back(walk.coll, walk.source)),
-        BeginPhase::SourceEntry { number, .. } => load(13, entry_of(number)),
-        BeginPhase::TargetDirectory { walk, .. } => load(10, directory(walk.coll, walk.target)),
+        BeginPhase::Nothing { .. } => store(Kind::CloseRound, Place::Round, Word::Round(None)),
+        BeginPhase::SourceDirectory(walk) => load(
+            Kind::LoadDirectory,
+            directory(walk.coll, walk.source),
+        ),
+        BeginPhase::SourceBack(walk) => load(Kind::LoadBack, back(walk.coll, walk.source)),
+        BeginPhase::SourceEntry { number, .. } => load(Kind::LoadEntry, entry_of(number)),
+        BeginPhase::TargetDirectory { walk, .. } => load(
+            Kind::LoadDirectory,
+            directory(walk.coll, walk.target),
+        ),
         BeginPhase::ClaimTarget { walk, seen, .. } => exchange(
-            11,
+            Kind::ClaimSlot,
             directory(walk.coll, walk.target),
             Word::Directory(seen),
             Word::Directory(Dir::Claimed),
         ),
         BeginPhase::BlankField { walk, field, .. } => store(
-            16,
+            Kind::StoreField,
             field_of(walk.coll, walk.target, field),
             Word::Plain(BLANK),
         ),
         BeginPhase::StoreBack { walk, number } => store(
-            15,
+            Kind::StoreBack,
             back(walk.coll, walk.target),
             Word::Back(Some(number)),
         ),
         BeginPhase::StoreForward { walk, .. } => store(
-            27,
+            Kind::StoreForward,
             forward(walk.coll, walk.source),
             Word::Forward(walk.target),
         ),
         BeginPhase::StoreIncoming { walk, .. } => store(
-            28,
+            Kind::StoreIncoming,
             directory(walk.coll, walk.target),
             Word::Directory(Dir::Incoming),
         ),
         BeginPhase::Freeze { walk, number } => exchange(
-            29,
+            Kind::Freeze,
             entry_of(number),
             present(number, walk.source),
             frozen(number, walk.source),

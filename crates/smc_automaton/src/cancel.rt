@@ -7,7 +7,7 @@ use crate::op::{back, directory, entry_of, exchange, frozen, leave_slot, load, p
 use crate::seen::{frozen_slot, is_incoming};
 use crate::size::slots_of;
 use crate::step::{ends, goes};
-use smc_core::{CancelPhase, Change, Done, LAST_EPOCH, Offer, Phase, Word};
+use smc_core::{CancelPhase, Change, Done, Kind, LAST_EPOCH, Offer, Phase, Word};
 use smc_shape::{Place, Shape};
 use smc_words::{ENTRIES, Number};
 
@@ -17,17 +17,17 @@ pub(crate) fn cancel_offer(epoch: u64, next: CancelPhase) -> Offer
     ensures { result ≡ cancel_offer epoch next }
 {
     match next {
-        CancelPhase::Directory { coll, slot } => load(10, directory(coll, slot)),
-        CancelPhase::Back { coll, slot } => load(24, back(coll, slot)),
-        CancelPhase::Entry { number, .. } => load(13, entry_of(number)),
+        CancelPhase::Directory { coll, slot } => load(Kind::LoadDirectory, directory(coll, slot)),
+        CancelPhase::Back { coll, slot } => load(Kind::LoadBack, back(coll, slot)),
+        CancelPhase::Entry { number, .. } => load(Kind::LoadEntry, entry_of(number)),
         CancelPhase::Unfreeze { number, source, .. } => exchange(
-            30,
+            Kind::Unfreeze,
             entry_of(number),
             frozen(number, source),
             present(number, source),
         ),
         CancelPhase::GiveUp { coll, slot } => leave_slot(coll, slot, epoch),
-        CancelPhase::End => store(36, Place::Round, Word::Round(None)),
+        CancelPhase::End => store(Kind::CloseRound, Place::Round, Word::Round(None)),
     }
 }
 

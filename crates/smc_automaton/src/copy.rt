@@ -5,7 +5,7 @@ ghost use Rattle.smc_automaton.specs.FitsPhase.{FitsCopy};
 
 use crate::op::{entry_of, exchange, field_of, forward, load, locked, present};
 use crate::size::width_of;
-use smc_core::{CopyPhase, Offer, Word};
+use smc_core::{CopyPhase, Kind, Offer, Word};
 use smc_shape::Shape;
 use smc_words::{BLANK, Number};
 
@@ -15,20 +15,20 @@ pub(crate) fn copy_offer(number: Number, source: u32, next: CopyPhase) -> Offer
 {
     let coll = number.coll;
     match next {
-        CopyPhase::Target => load(32, forward(coll, source)),
-        CopyPhase::Load { field, .. } => load(19, field_of(coll, source, field)),
+        CopyPhase::Target => load(Kind::LoadForward, forward(coll, source)),
+        CopyPhase::Load { field, .. } => load(Kind::LoadField, field_of(coll, source, field)),
         CopyPhase::Put {
             target,
             field,
             value,
         } => exchange(
-            33,
+            Kind::CopyField,
             field_of(coll, target, field),
             Word::Plain(BLANK),
             Word::Plain(value),
         ),
         CopyPhase::Swing { target } => exchange(
-            34,
+            Kind::Swing,
             entry_of(number),
             locked(number, source),
             present(number, target),

@@ -8,7 +8,7 @@ use crate::op::{back, directory, entry_of, load};
 use crate::seen::{has_object_at, is_valid};
 use crate::size::slots_of;
 use crate::step::{ends, goes};
-use smc_core::{Change, Count, CountPhase, Counting, Done, Offer, Phase, Word};
+use smc_core::{Change, Count, CountPhase, Counting, Done, Kind, Offer, Phase, Word};
 use smc_shape::{BLOCK_SLOTS, Shape};
 use smc_words::{ENTRIES, Number};
 
@@ -69,9 +69,12 @@ pub(crate) fn count_offer(next: CountPhase) -> Offer
     ensures { result ≡ count_offer next }
 {
     match next {
-        CountPhase::Directory { coll, slot, .. } => load(10, directory(coll, slot)),
-        CountPhase::Back { coll, slot, .. } => load(24, back(coll, slot)),
-        CountPhase::Entry { number, .. } => load(13, entry_of(number)),
+        CountPhase::Directory { coll, slot, .. } => load(
+            Kind::LoadDirectory,
+            directory(coll, slot),
+        ),
+        CountPhase::Back { coll, slot, .. } => load(Kind::LoadBack, back(coll, slot)),
+        CountPhase::Entry { number, .. } => load(Kind::LoadEntry, entry_of(number)),
     }
 }
 

@@ -12,7 +12,7 @@ use crate::step::{ends, goes};
 use crate::targets::{
     first_target, give_up, lock, moved, next_target, target_owner, with_given_up, with_moved,
 };
-use smc_core::{Change, CopyPhase, Done, FinishPhase, LAST_EPOCH, Offer, Owned, Phase, Word};
+use smc_core::{Change, CopyPhase, Done, FinishPhase, Kind, LAST_EPOCH, Offer, Owned, Phase, Word};
 use smc_shape::{Place, Shape};
 use smc_words::{Dir, EPOCHS};
 
@@ -30,11 +30,14 @@ pub(crate) fn finish_offer(epoch: u64, next: FinishPhase) -> Offer
     ensures { result ≡ finish_offer epoch next }
 {
     match next {
-        FinishPhase::Directory(targets) => load(10, directory(targets.coll, targets.slot)),
-        FinishPhase::Back(targets) => load(24, back(targets.coll, targets.slot)),
-        FinishPhase::Entry { number, .. } => load(13, entry_of(number)),
+        FinishPhase::Directory(targets) => load(
+            Kind::LoadDirectory,
+            directory(targets.coll, targets.slot),
+        ),
+        FinishPhase::Back(targets) => load(Kind::LoadBack, back(targets.coll, targets.slot)),
+        FinishPhase::Entry { number, .. } => load(Kind::LoadEntry, entry_of(number)),
         FinishPhase::Lock { number, source, .. } => exchange(
-            31,
+            Kind::Lock,
             entry_of(number),
             frozen(number, source),
             locked(number, source),
@@ -46,14 +49,14 @@ pub(crate) fn finish_offer(epoch: u64, next: FinishPhase) -> Offer
             ..
         } => copy_offer(number, source, copy),
         FinishPhase::Settle { targets, .. } => exchange(
-            35,
+            Kind::Settle,
             directory(targets.coll, targets.slot),
             Word::Directory(Dir::Incoming),
             Word::Directory(Dir::Valid),
         ),
         FinishPhase::LeaveSource { targets, source } => leave_slot(targets.coll, source, epoch),
         FinishPhase::GiveUp { targets, .. } => leave_slot(targets.coll, targets.slot, epoch),
-        FinishPhase::End(_) => store(36, Place::Round, Word::Round(None)),
+        FinishPhase::End(_) => store(Kind::CloseRound, Place::Round, Word::Round(None)),
     }
 }
 
@@ -133,7 +136,7 @@ pub(crate) fn finish_start(pass: u32, epoch: u64, owned: Owned) -> Offer
     ensures { result ≡ finish_start pass epoch owned }
 {
     if is_early(epoch, owned.bound) {
-        load(8, section_of(pass))
+        load(Kind::LoadSection, section_of(pass))
     } else {
         finish_offer(epoch, FinishPhase::Directory(first_target(owned.coll)))
     }

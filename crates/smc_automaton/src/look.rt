@@ -8,7 +8,9 @@ use crate::find::look_finding;
 use crate::op::{entry_of, exchange, frozen, load, present};
 use crate::size::slots_of;
 use crate::step::{goes, tells};
-use smc_core::{Change, Done, Finding, Held, LookPhase, Offer, Phase, ScanPhase, Seeker, Word};
+use smc_core::{
+    Change, Done, Finding, Held, Kind, LookPhase, Offer, Phase, ScanPhase, Seeker, Word,
+};
 use smc_model::Event;
 use smc_shape::Shape;
 use smc_words::{ENTRIES, Number};
@@ -18,9 +20,9 @@ pub(crate) fn look_offer(next: LookPhase) -> Offer
     ensures { result ≡ look_offer next }
 {
     match next {
-        LookPhase::Load { number, .. } => load(25, entry_of(number)),
+        LookPhase::Load { number, .. } => load(Kind::LookUp, entry_of(number)),
         LookPhase::Abandon { number, slot, .. } => exchange(
-            30,
+            Kind::Unfreeze,
             entry_of(number),
             frozen(number, slot),
             present(number, slot),

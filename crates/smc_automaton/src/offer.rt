@@ -14,7 +14,7 @@ use crate::remove::remove_offer;
 use crate::scan::scan_offer;
 use crate::section::{entering_offer, epoch_of};
 use crate::start::start_offer;
-use smc_core::{Choice, Offer, Phase, Stand, Word};
+use smc_core::{Choice, Kind, Offer, Phase, Stand, Word};
 use smc_shape::{Place, Shape};
 
 /// The step that goes on with the call in progress.
@@ -26,9 +26,9 @@ fn go_offer(shape: &Shape, pass: u32, stand: &Stand) -> Option<Offer>
     Some(match stand.phase {
         Phase::Idle => return None,
         Phase::Entering => return entering_offer(pass, section),
-        Phase::Advancing { pass: other, .. } => load(8, section_of(other)),
+        Phase::Advancing { pass: other, .. } => load(Kind::LoadSection, section_of(other)),
         Phase::Ready { epoch } => exchange(
-            9,
+            Kind::AdvanceEpoch,
             Place::Epoch,
             Word::Plain(epoch),
             Word::Plain(epoch + 1),

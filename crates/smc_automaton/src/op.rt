@@ -2,12 +2,12 @@
 ghost use Rattle.std.specs.Prelude.{◌≡◌, ◌+◌, ◌≤◌};
 ghost use Rattle.smc_core.specs.Step.{step};
 
-use smc_core::{LAST_EPOCH, Offer, Op, State, Word};
+use smc_core::{Kind, LAST_EPOCH, Offer, Op, State, Word};
 use smc_shape::Place;
 use smc_words::{Dir, Number};
 
 /// The load of a word, as a step of this kind.
-pub(crate) fn load(kind: u32, place: Place) -> Offer
+pub(crate) fn load(kind: Kind, place: Place) -> Offer
     ensures { result ≡ step kind (Op.Load place) }
 {
     Offer {
@@ -17,7 +17,7 @@ pub(crate) fn load(kind: u32, place: Place) -> Offer
 }
 
 /// The store of a word.
-pub(crate) fn store(kind: u32, place: Place, word: Word) -> Offer
+pub(crate) fn store(kind: Kind, place: Place, word: Word) -> Offer
     ensures { result ≡ step kind (Op.Store place word) }
 {
     Offer {
@@ -27,7 +27,7 @@ pub(crate) fn store(kind: u32, place: Place, word: Word) -> Offer
 }
 
 /// The exchange of a word that is expected.
-pub(crate) fn exchange(kind: u32, place: Place, expect: Word, put: Word) -> Offer
+pub(crate) fn exchange(kind: Kind, place: Place, expect: Word, put: Word) -> Offer
     ensures { result ≡ step kind (Op.Exchange place expect put) }
 {
     Offer {
@@ -37,7 +37,7 @@ pub(crate) fn exchange(kind: u32, place: Place, expect: Word, put: Word) -> Offe
 }
 
 /// The mark on the entry of this number.
-pub(crate) fn mark_gone(kind: u32, number: Number) -> Offer
+pub(crate) fn mark_gone(kind: Kind, number: Number) -> Offer
     ensures { result ≡ step kind (Op.MarkGone number.coll number.entry) }
 {
     Offer {
@@ -124,8 +124,12 @@ pub(crate) fn locked(number: Number, slot: u32) -> Word
 /// The store with which a section at this epoch leaves a slot, which may be used again from some later epoch on.
 pub(crate) fn leave_slot(coll: u8, slot: u32, epoch: u64) -> Offer
     requires { epoch ≤ LAST_EPOCH }
-    ensures { result ≡ step 22 (Op.Store (Place.Directory coll slot) (Word.Directory (Dir.Limbo (epoch + 1)))) }
+    ensures { result ≡ step Kind.LeaveSlot (Op.Store (Place.Directory coll slot) (Word.Directory (Dir.Limbo (epoch + 1)))) }
 {
     let limbo = Dir::Limbo(epoch + 1);
-    store(22, directory(coll, slot), Word::Directory(limbo))
+    store(
+        Kind::LeaveSlot,
+        directory(coll, slot),
+        Word::Directory(limbo),
+    )
 }

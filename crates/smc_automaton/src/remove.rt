@@ -5,7 +5,7 @@ ghost use Rattle.smc_core.specs.Remove.{remove_offer, mark_seen, remove_change};
 use crate::op::{directory, entry_of, leave_slot, store};
 use crate::seen::is_gone;
 use crate::step::{ends, goes, goes_telling, tells};
-use smc_core::{Change, Done, LAST_EPOCH, Offer, Phase, RemovePhase, State, Word};
+use smc_core::{Change, Done, Kind, LAST_EPOCH, Offer, Phase, RemovePhase, State, Word};
 use smc_model::Event;
 use smc_words::Number;
 
@@ -17,7 +17,7 @@ pub(crate) fn remove_offer(epoch: u64, next: RemovePhase) -> Offer
     match next {
         RemovePhase::LeaveSlot { slot, number } => leave_slot(number.coll, slot, epoch),
         RemovePhase::FreeEntry { number } => store(
-            23,
+            Kind::FreeEntry,
             entry_of(number),
             Word::Entry(State::Free {
                 incarnation: number.incarnation,

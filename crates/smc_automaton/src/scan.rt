@@ -8,7 +8,7 @@ use crate::op::{back, directory, load, section_of};
 use crate::seen::is_scanned;
 use crate::size::slots_of;
 use crate::step::{ends, goes, tells};
-use smc_core::{Change, Done, LookPhase, Offer, Phase, Scan, ScanPhase, Seeker, Word};
+use smc_core::{Change, Done, Kind, LookPhase, Offer, Phase, Scan, ScanPhase, Seeker, Word};
 use smc_model::Event;
 use smc_shape::Shape;
 use smc_words::{ENTRIES, Number, PASSES};
@@ -58,9 +58,9 @@ pub(crate) fn scan_offer(pass: u32, next: ScanPhase) -> Offer
     ensures { result ≡ scan_offer pass next }
 {
     match next {
-        ScanPhase::Directory { coll, slot, .. } => load(10, directory(coll, slot)),
-        ScanPhase::Back { coll, slot, .. } => load(24, back(coll, slot)),
-        ScanPhase::End { .. } => load(8, section_of(pass)),
+        ScanPhase::Directory { coll, slot, .. } => load(Kind::LoadDirectory, directory(coll, slot)),
+        ScanPhase::Back { coll, slot, .. } => load(Kind::LoadBack, back(coll, slot)),
+        ScanPhase::End { .. } => load(Kind::LoadSection, section_of(pass)),
     }
 }
 
@@ -101,9 +101,9 @@ pub(crate) fn next_offer(shape: &Shape, pass: u32, begun: Scan) -> Offer
     ensures { result ≡ next_offer shape.now pass begun }
 {
     if is_over(shape, begun) {
-        load(8, section_of(pass))
+        load(Kind::LoadSection, section_of(pass))
     } else {
-        load(10, directory(begun.coll, begun.place))
+        load(Kind::LoadDirectory, directory(begun.coll, begun.place))
     }
 }
 

@@ -5,7 +5,7 @@ ghost use Rattle.smc_automaton.specs.Fits.{FitsSection};
 
 use crate::op::{load, section_of, store};
 use crate::step::{goes, tells};
-use smc_core::{Change, Done, LAST_EPOCH, Offer, Phase, Section, Word};
+use smc_core::{Change, Done, Kind, LAST_EPOCH, Offer, Phase, Section, Word};
 use smc_model::Event;
 use smc_shape::Place;
 use smc_words::RoundWord;
@@ -40,10 +40,18 @@ pub(crate) fn entering_offer(pass: u32, section: Section) -> Option<Offer>
     ensures { result ≡ entering_offer pass section }
 {
     match section {
-        Section::Loaded { seen } => Some(store(2, section_of(pass), Word::Plain(seen))),
-        Section::Announced { .. } => Some(load(3, Place::Epoch)),
-        Section::Again { epoch, .. } => Some(store(4, section_of(pass), Word::Plain(epoch))),
-        Section::Lasting { .. } => Some(load(5, Place::Round)),
+        Section::Loaded { seen } => Some(store(
+            Kind::Announce,
+            section_of(pass),
+            Word::Plain(seen),
+        )),
+        Section::Announced { .. } => Some(load(Kind::LoadEpochAgain, Place::Epoch)),
+        Section::Again { epoch, .. } => Some(store(
+            Kind::AnnounceAgain,
+            section_of(pass),
+            Word::Plain(epoch),
+        )),
+        Section::Lasting { .. } => Some(load(Kind::LoadRound, Place::Round)),
         Section::Outside | Section::Inside { .. } => None,
     }
 }

@@ -20,7 +20,8 @@ use crate::scan::{next_offer, scan_of};
 use crate::section::epoch_of;
 use crate::size::{has_coll, has_entry, width_of};
 use smc_core::{
-    Call, CancelPhase, LAST_EPOCH, LookPhase, Offer, Op, Owned, Scan, Section, Seeker, Stand, Word,
+    Call, CancelPhase, Kind, LAST_EPOCH, LookPhase, Offer, Op, Owned, Scan, Section, Seeker, Stand,
+    Word,
 };
 use smc_shape::{Place, Shape};
 use smc_words::Number;
@@ -76,21 +77,21 @@ fn look_start(shape: &Shape, pass: u32, number: Number) -> Offer
 
 /// The load of the pass's own section word, which nobody else stores.
 fn own_word(pass: u32) -> Offer
-    ensures { result ≡ step 8 (Op.Load (Place.Section pass)) }
+    ensures { result ≡ step Kind.LoadSection (Op.Load (Place.Section pass)) }
 {
-    load(8, section_of(pass))
+    load(Kind::LoadSection, section_of(pass))
 }
 
 /// The load of a field of a held object.
 fn read_start(shape: &Shape, held: Option<u32>, number: Number, field: u32) -> Option<Offer>
     ensures { result ≡ when_held held (λ slot. when (nat_lt field (width_of shape.now number.coll))
-        (step 19 (Op.Load (Place.Field number.coll slot field)))) }
+        (step Kind.LoadField (Op.Load (Place.Field number.coll slot field)))) }
 {
     match held {
         None => None,
         Some(slot) => when(
             field < width_of(shape, number.coll),
-            load(19, field_of(number.coll, slot, field)),
+            load(Kind::LoadField, field_of(number.coll, slot, field)),
         ),
     }
 }
@@ -104,24 +105,28 @@ fn write_start(
     value: u64,
 ) -> Option<Offer>
     ensures { result ≡ when_held held (λ slot. when (nat_lt field (width_of shape.now number.coll) && is_value value)
-        (step 20 (Op.Store (Place.Field number.coll slot field) (Word.Plain value)))) }
+        (step Kind.WriteField (Op.Store (Place.Field number.coll slot field) (Word.Plain value)))) }
 {
     match held {
         None => None,
         Some(slot) => when(
             field < width_of(shape, number.coll) && is_value(value),
-            store(20, field_of(number.coll, slot, field), Word::Plain(value)),
+            store(
+                Kind::WriteField,
+                field_of(number.coll, slot, field),
+                Word::Plain(value),
+            ),
         ),
     }
 }
 
 /// The mark on the entry of a held object.
 fn remove_start(held: Option<u32>, number: Number) -> Option<Offer>
-    ensures { result ≡ when_held held (λ slot. Some (step 21 (Op.MarkGone number.coll number.entry))) }
+    ensures { result ≡ when_held held (λ slot. Some (step Kind.MarkGone (Op.MarkGone number.coll number.entry))) }
 {
     match held {
         None => None,
-        Some(_) => Some(mark_gone(21, number)),
+        Some(_) => Some(mark_gone(Kind::MarkGone, number)),
     }
 }
 
@@ -172,13 +177,13 @@ pub(crate) fn start_offer(shape: &Shape, pass: u32, stand: &Stand, call: &Call) 
     let section = stand.section;
     let offer = match call {
         Call::Enter | Call::Note | Call::Learn { .. } => {
-            return when_outside(section, load(1, Place::Epoch));
+            return when_outside(section, load(Kind::LoadEpoch, Place::Epoch));
         }
-        Call::Advance => return when_outside(section, load(7, Place::Epoch)),
-        Call::Leave => Some(store(6, section_of(pass), Word::Plain(0))),
+        Call::Advance => return when_outside(section, load(Kind::StartAdvance, Place::Epoch)),
+        Call::Leave => Some(store(Kind::Leave, section_of(pass), Word::Plain(0))),
         Call::Add { coll, from, words } => when(
             takes(shape, *coll, *from, words),
-            load(10, directory(*coll, *from)),
+            load(Kind::LoadDirectory, directory(*coll, *from)),
         ),
         Call::Look { number } => Some(look_start(shape, pass, *number)),
         Call::Read { number, field } => {

@@ -6,6 +6,7 @@ use Rattle.smc_shape.specs.Places.{at}
 use Rattle.smc_shape.specs.declared.place.Place.TheVariants.{Directory}
 use Rattle.smc_model.specs.declared.event.Cause.TheVariants.{Slots, Entries}
 use Rattle.smc_core.specs.declared.done.Done.TheVariants.{At, Out, Advanced, NotYet, Overtaken, Spent, Made, Full, Here, Null, Value, Written, First, Begun, Visit, End, Round, Nothing, Busy, Finished, Early, Cancelled, Noted, Learned, Surveyed}
+use Rattle.smc_core.specs.declared.kind.Kind.TheVariants as kind
 use Rattle.smc_core.specs.declared.op.Op.TheVariants.{Load}
 use Rattle.smc_core.specs.Step.{step}
 use Rattle.smc_core.specs.Played.{played, refused_line, answers, last_done, dirs, offers_next, object}
@@ -88,7 +89,7 @@ pub two_claims-slots : dirs (0 ∷ 1 ∷ []) two_claims ≡ Claimed ∷ Free ∷
 unfolding at played
 two_claims-slots = refl
 
-pub two_claims-next : offers_next 1 two_claims ≡ Some (step 10 (Load (Directory 0 1)))
+pub two_claims-next : offers_next 1 two_claims ≡ Some (step kind.LoadDirectory (Load (Directory 0 1)))
 unfolding at played
 two_claims-next = refl
 

@@ -12,6 +12,7 @@ use Rattle.smc_model.specs.declared.event.Cause.TheVariants.{Slots, Entries}
 use Rattle.smc_model.specs.declared.event.Event.TheVariants as event
 use Rattle.smc_core.specs.declared.change.Change.{Change}
 use Rattle.smc_core.specs.declared.done.Done.TheVariants as done
+use Rattle.smc_core.specs.declared.kind.Kind.TheVariants as kind
 use Rattle.smc_core.specs.declared.op.Offer.{Offer}
 use Rattle.smc_core.specs.declared.op.Op.TheVariants.{Load, Store, Exchange}
 use Rattle.smc_core.specs.declared.phase.Phase.TheVariants as phase
@@ -39,15 +40,15 @@ takes shape coll from words = nat_lt coll (length shape.colls) && nat_lt from (s
 
 -- the step of an add that stores these words
 abbrev pub add_offer : List ℕ → AddPhase → Offer
-add_offer words (add.FindSlot coll from slot tried) = step 10 (Load (place.Directory coll slot))
-add_offer words (add.ClaimSlot coll from slot tried seen) = step 11 (Exchange (place.Directory coll slot) (word.Directory seen) (word.Directory dir.Claimed))
-add_offer words (add.DropSlot coll slot) = step 12 (Store (place.Directory coll slot) (word.Directory dir.Free))
-add_offer words (add.FindEntry coll slot entry tried) = step 13 (Load (place.Entry coll entry))
-add_offer words (add.ClaimEntry coll slot entry tried incarnation stamp) = step 14 (Exchange (place.Entry coll entry) (word.Entry (state.Free incarnation stamp)) (word.Entry (state.Claimed (incarnation + 1))))
-add_offer words (add.StoreBack slot number) = step 15 (Store (place.Back number.coll slot) (word.Back (Some number)))
-add_offer words (add.StoreField slot number field) = step 16 (Store (place.Field number.coll slot field) (word.Plain (slice_index words field)))
-add_offer words (add.StoreValid slot number) = step 17 (Store (place.Directory number.coll slot) (word.Directory dir.Valid))
-add_offer words (add.StoreLive slot number) = step 18 (Store (place.Entry number.coll number.entry) (word.Entry (state.Present number.incarnation slot)))
+add_offer words (add.FindSlot coll from slot tried) = step kind.LoadDirectory (Load (place.Directory coll slot))
+add_offer words (add.ClaimSlot coll from slot tried seen) = step kind.ClaimSlot (Exchange (place.Directory coll slot) (word.Directory seen) (word.Directory dir.Claimed))
+add_offer words (add.DropSlot coll slot) = step kind.DropSlot (Store (place.Directory coll slot) (word.Directory dir.Free))
+add_offer words (add.FindEntry coll slot entry tried) = step kind.LoadEntry (Load (place.Entry coll entry))
+add_offer words (add.ClaimEntry coll slot entry tried incarnation stamp) = step kind.ClaimEntry (Exchange (place.Entry coll entry) (word.Entry (state.Free incarnation stamp)) (word.Entry (state.Claimed (incarnation + 1))))
+add_offer words (add.StoreBack slot number) = step kind.StoreBack (Store (place.Back number.coll slot) (word.Back (Some number)))
+add_offer words (add.StoreField slot number field) = step kind.StoreField (Store (place.Field number.coll slot field) (word.Plain (slice_index words field)))
+add_offer words (add.StoreValid slot number) = step kind.StoreValid (Store (place.Directory number.coll slot) (word.Directory dir.Valid))
+add_offer words (add.StoreLive slot number) = step kind.StoreLive (Store (place.Entry number.coll number.entry) (word.Entry (state.Present number.incarnation slot)))
 
 -- the object is not added, for want of room
 abbrev pub refuses : ℕ → Cause → Change

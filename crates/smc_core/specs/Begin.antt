@@ -9,6 +9,7 @@ use Rattle.smc_shape.specs.declared.coll.TheConstants.{BLOCK_SLOTS}
 use Rattle.smc_shape.specs.declared.place.Place.TheVariants as place
 use Rattle.smc_core.specs.declared.change.Change.{Change}
 use Rattle.smc_core.specs.declared.done.Done.TheVariants as done
+use Rattle.smc_core.specs.declared.kind.Kind.TheVariants as kind
 use Rattle.smc_core.specs.declared.op.Offer.{Offer}
 use Rattle.smc_core.specs.declared.op.Op.TheVariants.{Load, Store, Exchange}
 use Rattle.smc_core.specs.declared.phase.Phase.TheVariants as phase
@@ -30,7 +31,7 @@ use Rattle.smc_core.specs.Words.{dir_of, back_of, state_of, same_word}
 
 -- the first step of a begin: the round word is exchanged from none to this pass's round, bound one above the section
 abbrev pub round_offer : ℕ → ℕ → ℕ → Offer
-round_offer pass epoch coll = step 26 (Exchange place.Round (word.Round None) (word.Round (Some (record { bound = epoch + 1; pass = pass; coll = coll }))))
+round_offer pass epoch coll = step kind.OpenRound (Exchange place.Round (word.Round None) (word.Round (Some (record { bound = epoch + 1; pass = pass; coll = coll }))))
 
 -- what that step changes: where another round was seen, the call ends as busy
 abbrev pub round_seen : ℕ → Option RoundWord → Change
@@ -40,18 +41,18 @@ round_seen coll (Some round) = ends (done.Busy round.bound round.pass round.coll
 -- the step of a begin, in a section at this epoch
 abbrev pub begin_offer : ℕ → BeginPhase → Offer
 begin_offer epoch (begin.Count next) = count_offer next
-begin_offer epoch (begin.Nothing coll) = step 36 (Store place.Round (word.Round None))
-begin_offer epoch (begin.SourceDirectory moves) = step 10 (Load (place.Directory moves.coll moves.source))
-begin_offer epoch (begin.SourceBack moves) = step 24 (Load (place.Back moves.coll moves.source))
-begin_offer epoch (begin.SourceEntry moves number) = step 13 (Load (place.Entry number.coll number.entry))
-begin_offer epoch (begin.TargetDirectory moves number) = step 10 (Load (place.Directory moves.coll moves.target))
-begin_offer epoch (begin.ClaimTarget moves number seen) = step 11 (Exchange (place.Directory moves.coll moves.target) (word.Directory seen) (word.Directory dir.Claimed))
-begin_offer epoch (begin.BlankField moves number field) = step 16 (Store (place.Field moves.coll moves.target field) (word.Plain BLANK))
-begin_offer epoch (begin.StoreBack moves number) = step 15 (Store (place.Back moves.coll moves.target) (word.Back (Some number)))
-begin_offer epoch (begin.StoreForward moves number) = step 27 (Store (place.Forward moves.coll moves.source) (word.Forward moves.target))
-begin_offer epoch (begin.StoreIncoming moves number) = step 28 (Store (place.Directory moves.coll moves.target) (word.Directory dir.Incoming))
-begin_offer epoch (begin.Freeze moves number) = step 29 (Exchange (place.Entry number.coll number.entry) (word.Entry (state.Present number.incarnation moves.source)) (word.Entry (state.Frozen number.incarnation moves.source)))
-begin_offer epoch (begin.GiveUp moves) = step 22 (Store (place.Directory moves.coll moves.target) (word.Directory (dir.Limbo (epoch + 1))))
+begin_offer epoch (begin.Nothing coll) = step kind.CloseRound (Store place.Round (word.Round None))
+begin_offer epoch (begin.SourceDirectory moves) = step kind.LoadDirectory (Load (place.Directory moves.coll moves.source))
+begin_offer epoch (begin.SourceBack moves) = step kind.LoadBack (Load (place.Back moves.coll moves.source))
+begin_offer epoch (begin.SourceEntry moves number) = step kind.LoadEntry (Load (place.Entry number.coll number.entry))
+begin_offer epoch (begin.TargetDirectory moves number) = step kind.LoadDirectory (Load (place.Directory moves.coll moves.target))
+begin_offer epoch (begin.ClaimTarget moves number seen) = step kind.ClaimSlot (Exchange (place.Directory moves.coll moves.target) (word.Directory seen) (word.Directory dir.Claimed))
+begin_offer epoch (begin.BlankField moves number field) = step kind.StoreField (Store (place.Field moves.coll moves.target field) (word.Plain BLANK))
+begin_offer epoch (begin.StoreBack moves number) = step kind.StoreBack (Store (place.Back moves.coll moves.target) (word.Back (Some number)))
+begin_offer epoch (begin.StoreForward moves number) = step kind.StoreForward (Store (place.Forward moves.coll moves.source) (word.Forward moves.target))
+begin_offer epoch (begin.StoreIncoming moves number) = step kind.StoreIncoming (Store (place.Directory moves.coll moves.target) (word.Directory dir.Incoming))
+begin_offer epoch (begin.Freeze moves number) = step kind.Freeze (Exchange (place.Entry number.coll number.entry) (word.Entry (state.Present number.incarnation moves.source)) (word.Entry (state.Frozen number.incarnation moves.source)))
+begin_offer epoch (begin.GiveUp moves) = step kind.LeaveSlot (Store (place.Directory moves.coll moves.target) (word.Directory (dir.Limbo (epoch + 1))))
 
 -- whether the entry has the object in this slot, with no mark
 abbrev pub is_source : Number → ℕ → State → Bool

@@ -6,6 +6,7 @@ use Rattle.smc_shape.specs.Layout.{Layout, slots_of}
 use Rattle.smc_shape.specs.declared.place.Place.TheVariants as place
 use Rattle.smc_core.specs.declared.change.Change.{Change}
 use Rattle.smc_core.specs.declared.done.Done.TheVariants as done
+use Rattle.smc_core.specs.declared.kind.Kind.TheVariants as kind
 use Rattle.smc_core.specs.declared.op.Offer.{Offer}
 use Rattle.smc_core.specs.declared.op.Op.TheVariants.{Load, Store, Exchange}
 use Rattle.smc_core.specs.declared.phase.Phase.TheVariants as phase
@@ -20,12 +21,12 @@ use Rattle.smc_core.specs.Words.{dir_of, back_of, state_of}
 
 -- the step of a cancel, in a section at this epoch
 abbrev pub cancel_offer : ℕ → CancelPhase → Offer
-cancel_offer epoch (cancel.Directory coll slot) = step 10 (Load (place.Directory coll slot))
-cancel_offer epoch (cancel.Back coll slot) = step 24 (Load (place.Back coll slot))
-cancel_offer epoch (cancel.Entry coll slot number) = step 13 (Load (place.Entry number.coll number.entry))
-cancel_offer epoch (cancel.Unfreeze coll slot number source) = step 30 (Exchange (place.Entry number.coll number.entry) (word.Entry (state.Frozen number.incarnation source)) (word.Entry (state.Present number.incarnation source)))
-cancel_offer epoch (cancel.GiveUp coll slot) = step 22 (Store (place.Directory coll slot) (word.Directory (dir.Limbo (epoch + 1))))
-cancel_offer epoch cancel.End = step 36 (Store place.Round (word.Round None))
+cancel_offer epoch (cancel.Directory coll slot) = step kind.LoadDirectory (Load (place.Directory coll slot))
+cancel_offer epoch (cancel.Back coll slot) = step kind.LoadBack (Load (place.Back coll slot))
+cancel_offer epoch (cancel.Entry coll slot number) = step kind.LoadEntry (Load (place.Entry number.coll number.entry))
+cancel_offer epoch (cancel.Unfreeze coll slot number source) = step kind.Unfreeze (Exchange (place.Entry number.coll number.entry) (word.Entry (state.Frozen number.incarnation source)) (word.Entry (state.Present number.incarnation source)))
+cancel_offer epoch (cancel.GiveUp coll slot) = step kind.LeaveSlot (Store (place.Directory coll slot) (word.Directory (dir.Limbo (epoch + 1))))
+cancel_offer epoch cancel.End = step kind.CloseRound (Store place.Round (word.Round None))
 
 -- the walk goes on with the next slot, or, where each was passed, to its end
 abbrev pub next_cancelled : Layout → ℕ → ℕ → CancelPhase

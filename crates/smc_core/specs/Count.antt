@@ -8,6 +8,7 @@ use Rattle.smc_shape.specs.declared.coll.TheConstants.{BLOCK_SLOTS}
 use Rattle.smc_shape.specs.declared.place.Place.TheVariants as place
 use Rattle.smc_core.specs.declared.change.Change.{Change}
 use Rattle.smc_core.specs.declared.done.Done.TheVariants as done
+use Rattle.smc_core.specs.declared.kind.Kind.TheVariants as kind
 use Rattle.smc_core.specs.declared.op.Offer.{Offer}
 use Rattle.smc_core.specs.declared.op.Op.TheVariants.{Load}
 use Rattle.smc_core.specs.declared.phase.Phase.TheVariants as phase
@@ -47,9 +48,9 @@ with_object slot count = record {
 
 -- the step of a counting walk
 abbrev pub count_offer : CountPhase → Offer
-count_offer (walk.Directory coll slot count) = step 10 (Load (place.Directory coll slot))
-count_offer (walk.Back coll slot count) = step 24 (Load (place.Back coll slot))
-count_offer (walk.Entry coll slot count number) = step 13 (Load (place.Entry number.coll number.entry))
+count_offer (walk.Directory coll slot count) = step kind.LoadDirectory (Load (place.Directory coll slot))
+count_offer (walk.Back coll slot count) = step kind.LoadBack (Load (place.Back coll slot))
+count_offer (walk.Entry coll slot count number) = step kind.LoadEntry (Load (place.Entry number.coll number.entry))
 
 -- the walk goes on with the next slot, or has passed all
 abbrev pub count_next : Layout → ℕ → ℕ → Count → Counting

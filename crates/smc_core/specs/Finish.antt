@@ -7,6 +7,7 @@ use Rattle.smc_shape.specs.Layout.{Layout, slots_of}
 use Rattle.smc_shape.specs.declared.place.Place.TheVariants as place
 use Rattle.smc_core.specs.declared.change.Change.{Change}
 use Rattle.smc_core.specs.declared.done.Done.TheVariants as done
+use Rattle.smc_core.specs.declared.kind.Kind.TheVariants as kind
 use Rattle.smc_core.specs.declared.local.Owned.{Owned}
 use Rattle.smc_core.specs.declared.op.Offer.{Offer}
 use Rattle.smc_core.specs.declared.op.Op.TheVariants.{Load, Store, Exchange}
@@ -39,15 +40,15 @@ first_target coll = record { coll = coll; slot = 0; moved = 0; abandoned = 0; go
 
 -- the step of a finish, in a section at this epoch
 abbrev pub finish_offer : ℕ → FinishPhase → Offer
-finish_offer epoch (finish.Directory targets) = step 10 (Load (place.Directory targets.coll targets.slot))
-finish_offer epoch (finish.Back targets) = step 24 (Load (place.Back targets.coll targets.slot))
-finish_offer epoch (finish.Entry targets number) = step 13 (Load (place.Entry number.coll number.entry))
-finish_offer epoch (finish.Lock targets number source) = step 31 (Exchange (place.Entry number.coll number.entry) (word.Entry (state.Frozen number.incarnation source)) (word.Entry (state.Locked number.incarnation source)))
+finish_offer epoch (finish.Directory targets) = step kind.LoadDirectory (Load (place.Directory targets.coll targets.slot))
+finish_offer epoch (finish.Back targets) = step kind.LoadBack (Load (place.Back targets.coll targets.slot))
+finish_offer epoch (finish.Entry targets number) = step kind.LoadEntry (Load (place.Entry number.coll number.entry))
+finish_offer epoch (finish.Lock targets number source) = step kind.Lock (Exchange (place.Entry number.coll number.entry) (word.Entry (state.Frozen number.incarnation source)) (word.Entry (state.Locked number.incarnation source)))
 finish_offer epoch (finish.Move targets number source next) = copy_offer number source next
-finish_offer epoch (finish.Settle targets source) = step 35 (Exchange (place.Directory targets.coll targets.slot) (word.Directory dir.Incoming) (word.Directory dir.Valid))
-finish_offer epoch (finish.LeaveSource targets source) = step 22 (Store (place.Directory targets.coll source) (word.Directory (dir.Limbo (epoch + 1))))
-finish_offer epoch (finish.GiveUp targets gone) = step 22 (Store (place.Directory targets.coll targets.slot) (word.Directory (dir.Limbo (epoch + 1))))
-finish_offer epoch (finish.End targets) = step 36 (Store place.Round (word.Round None))
+finish_offer epoch (finish.Settle targets source) = step kind.Settle (Exchange (place.Directory targets.coll targets.slot) (word.Directory dir.Incoming) (word.Directory dir.Valid))
+finish_offer epoch (finish.LeaveSource targets source) = step kind.LeaveSlot (Store (place.Directory targets.coll source) (word.Directory (dir.Limbo (epoch + 1))))
+finish_offer epoch (finish.GiveUp targets gone) = step kind.LeaveSlot (Store (place.Directory targets.coll targets.slot) (word.Directory (dir.Limbo (epoch + 1))))
+finish_offer epoch (finish.End targets) = step kind.CloseRound (Store place.Round (word.Round None))
 
 -- the walk goes on with the next slot, or, where each was passed, to its end
 abbrev pub next_target : Layout → Targets → FinishPhase
@@ -105,7 +106,7 @@ finish_change shape next w = goes (phase.Finish (finish_next shape next w))
 
 -- the first step of a finish: of a section that is too early the own word, else the directory word of the first slot
 abbrev pub finish_start : ℕ → ℕ → Owned → Offer
-finish_start pass epoch owned = if is_early epoch owned.bound then step 8 (Load (place.Section pass)) else finish_offer epoch (finish.Directory (first_target owned.coll))
+finish_start pass epoch owned = if is_early epoch owned.bound then step kind.LoadSection (Load (place.Section pass)) else finish_offer epoch (finish.Directory (first_target owned.coll))
 
 -- what that step changes
 abbrev pub finish_started : Layout → ℕ → Owned → Word → Change

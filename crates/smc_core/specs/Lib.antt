@@ -1,5 +1,6 @@
 pub mod Words
 pub mod Row
+pub mod Kinds
 pub mod Step
 pub mod Section
 pub mod Ripe

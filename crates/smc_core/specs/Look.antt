@@ -7,6 +7,7 @@ use Rattle.smc_shape.specs.declared.place.Place.TheVariants as place
 use Rattle.smc_model.specs.declared.event.Event.TheVariants as event
 use Rattle.smc_core.specs.declared.change.Change.{Change}
 use Rattle.smc_core.specs.declared.done.Done.TheVariants as done
+use Rattle.smc_core.specs.declared.kind.Kind.TheVariants as kind
 use Rattle.smc_core.specs.declared.op.Offer.{Offer}
 use Rattle.smc_core.specs.declared.op.Op.TheVariants.{Load, Exchange}
 use Rattle.smc_core.specs.declared.phase.Phase.{Phase}
@@ -30,10 +31,10 @@ use Rattle.smc_core.specs.Words.{plain_of, forward_of, state_of, same_word}
 -- the step of copying an object from its source slot: its target is loaded, then each field is loaded there and
 -- exchanged here from blank, and at the end the entry swings from the source to the target
 abbrev pub copy_offer : Number → ℕ → CopyPhase → Offer
-copy_offer number source copy.Target = step 32 (Load (place.Forward number.coll source))
-copy_offer number source (copy.Load target field) = step 19 (Load (place.Field number.coll source field))
-copy_offer number source (copy.Put target field value) = step 33 (Exchange (place.Field number.coll target field) (word.Plain BLANK) (word.Plain value))
-copy_offer number source (copy.Swing target) = step 34 (Exchange (place.Entry number.coll number.entry) (word.Entry (state.Locked number.incarnation source)) (word.Entry (state.Present number.incarnation target)))
+copy_offer number source copy.Target = step kind.LoadForward (Load (place.Forward number.coll source))
+copy_offer number source (copy.Load target field) = step kind.LoadField (Load (place.Field number.coll source field))
+copy_offer number source (copy.Put target field value) = step kind.CopyField (Exchange (place.Field number.coll target field) (word.Plain BLANK) (word.Plain value))
+copy_offer number source (copy.Swing target) = step kind.Swing (Exchange (place.Entry number.coll number.entry) (word.Entry (state.Locked number.incarnation source)) (word.Entry (state.Present number.incarnation target)))
 
 -- the field is copied next, or, where it is none, the entry swings
 abbrev pub copy_field : Layout → ℕ → ℕ → ℕ → CopyPhase
@@ -46,10 +47,10 @@ copy_next shape coll (copy.Load target field) w = copy.Put target field (plain_o
 copy_next shape coll (copy.Put target field value) w = copy_field shape coll target (field + 1)
 copy_next shape coll (copy.Swing target) w = copy.Swing target
 
--- the step of a look-up: the entry is loaded (25), or exchanged to the same word without the mark of a round (30)
+-- the step of a look-up: the entry is loaded, or exchanged to the same word without the mark of a round
 abbrev pub look_offer : LookPhase → Offer
-look_offer (look.Load who number) = step 25 (Load (place.Entry number.coll number.entry))
-look_offer (look.Abandon who number slot) = step 30 (Exchange (place.Entry number.coll number.entry) (word.Entry (state.Frozen number.incarnation slot)) (word.Entry (state.Present number.incarnation slot)))
+look_offer (look.Load who number) = step kind.LookUp (Load (place.Entry number.coll number.entry))
+look_offer (look.Abandon who number slot) = step kind.Unfreeze (Exchange (place.Entry number.coll number.entry) (word.Entry (state.Frozen number.incarnation slot)) (word.Entry (state.Present number.incarnation slot)))
 look_offer (look.Help who number slot copy) = copy_offer number slot copy
 
 -- by the entry: where its incarnation differs or its object is gone there is none; a frozen one is held in a calm

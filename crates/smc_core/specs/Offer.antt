@@ -7,6 +7,7 @@ use Rattle.smc_core.specs.declared.call.Call.{Call}
 use Rattle.smc_core.specs.declared.call.Call.TheVariants as call
 use Rattle.smc_core.specs.declared.call.Choice.{Choice}
 use Rattle.smc_core.specs.declared.call.Choice.TheVariants.{Start, Go}
+use Rattle.smc_core.specs.declared.kind.Kind.TheVariants as kind
 use Rattle.smc_core.specs.declared.local.Held.{Held}
 use Rattle.smc_core.specs.declared.local.Owned.{Owned}
 use Rattle.smc_core.specs.declared.local.Scan.{Scan}
@@ -39,8 +40,8 @@ use Rattle.smc_core.specs.Words.{same_number}
 abbrev pub go_offer : ℕ → Stand → Section → Phase → Option Offer
 go_offer pass stand section phase.Idle = None
 go_offer pass stand section phase.Entering = entering_offer pass section
-go_offer pass stand section (phase.Advancing epoch other) = Some (step 8 (Load (place.Section other)))
-go_offer pass stand section (phase.Ready epoch) = Some (step 9 (Exchange place.Epoch (word.Plain epoch) (word.Plain (epoch + 1))))
+go_offer pass stand section (phase.Advancing epoch other) = Some (step kind.LoadSection (Load (place.Section other)))
+go_offer pass stand section (phase.Ready epoch) = Some (step kind.AdvanceEpoch (Exchange place.Epoch (word.Plain epoch) (word.Plain (epoch + 1))))
 go_offer pass stand section (phase.Look next) = Some (look_offer next)
 go_offer pass stand section (phase.Add next) = Some (add_offer stand.words next)
 go_offer pass stand section (phase.Remove next) = Some (remove_offer (epoch_of section) next)
@@ -87,26 +88,26 @@ when_owned (Some round) offer = Some (offer round)
 
 -- the first step of looking a number up: its entry, or, where the region has none of this number, the own word
 abbrev pub look_start : Layout → ℕ → Number → Offer
-look_start shape pass number = if has_place shape (place.Entry number.coll number.entry) then look_offer (look.Load seeker.Caller number) else step 8 (Load (place.Section pass))
+look_start shape pass number = if has_place shape (place.Entry number.coll number.entry) then look_offer (look.Load seeker.Caller number) else step kind.LoadSection (Load (place.Section pass))
 
 -- the first step of a call, where the call may be made
 abbrev pub start_offer : Layout → ℕ → Stand → Section → Call → Option Offer
-start_offer shape pass stand section call.Enter = when_outside section (Some (step 1 (Load place.Epoch)))
-start_offer shape pass stand section call.Leave = when_inside section (Some (step 6 (Store (place.Section pass) (word.Plain 0))))
-start_offer shape pass stand section call.Advance = when_outside section (Some (step 7 (Load place.Epoch)))
-start_offer shape pass stand section (call.Add coll from words) = when_inside section (when (takes shape coll from words) (step 10 (Load (place.Directory coll from))))
+start_offer shape pass stand section call.Enter = when_outside section (Some (step kind.LoadEpoch (Load place.Epoch)))
+start_offer shape pass stand section call.Leave = when_inside section (Some (step kind.Leave (Store (place.Section pass) (word.Plain 0))))
+start_offer shape pass stand section call.Advance = when_outside section (Some (step kind.StartAdvance (Load place.Epoch)))
+start_offer shape pass stand section (call.Add coll from words) = when_inside section (when (takes shape coll from words) (step kind.LoadDirectory (Load (place.Directory coll from))))
 start_offer shape pass stand section (call.Look number) = when_inside section (Some (look_start shape pass number))
-start_offer shape pass stand section (call.Read number field) = when_inside section (when_held (held_slot stand.held number) (λ slot. when (nat_lt field (width_of shape number.coll)) (step 19 (Load (place.Field number.coll slot field)))))
-start_offer shape pass stand section (call.Write number field value) = when_inside section (when_held (held_slot stand.held number) (λ slot. when (nat_lt field (width_of shape number.coll) && is_value value) (step 20 (Store (place.Field number.coll slot field) (word.Plain value)))))
-start_offer shape pass stand section (call.Remove number) = when_inside section (when_held (held_slot stand.held number) (λ slot. Some (step 21 (MarkGone number.coll number.entry))))
-start_offer shape pass stand section (call.Scan coll) = when_inside section (when (nat_lt coll (length shape.colls)) (step 8 (Load (place.Section pass))))
+start_offer shape pass stand section (call.Read number field) = when_inside section (when_held (held_slot stand.held number) (λ slot. when (nat_lt field (width_of shape number.coll)) (step kind.LoadField (Load (place.Field number.coll slot field)))))
+start_offer shape pass stand section (call.Write number field value) = when_inside section (when_held (held_slot stand.held number) (λ slot. when (nat_lt field (width_of shape number.coll) && is_value value) (step kind.WriteField (Store (place.Field number.coll slot field) (word.Plain value)))))
+start_offer shape pass stand section (call.Remove number) = when_inside section (when_held (held_slot stand.held number) (λ slot. Some (step kind.MarkGone (MarkGone number.coll number.entry))))
+start_offer shape pass stand section (call.Scan coll) = when_inside section (when (nat_lt coll (length shape.colls)) (step kind.LoadSection (Load (place.Section pass))))
 start_offer shape pass stand section (call.Next scan) = when_inside section (when_begun (scan_of stand.scans scan) (λ begun. next_offer shape pass begun))
 start_offer shape pass stand section (call.Begin coll) = when_inside section (when (nat_lt coll (length shape.colls)) (round_offer pass (epoch_of section) coll))
 start_offer shape pass stand section call.Finish = when_inside section (when_owned stand.round (λ owned. finish_start pass (epoch_of section) owned))
 start_offer shape pass stand section call.Cancel = when_inside section (when_owned stand.round (λ owned. cancel_offer (epoch_of section) (cancel.Directory owned.coll 0)))
 start_offer shape pass stand section (call.Survey coll) = when_inside section (when (nat_lt coll (length shape.colls)) (count_offer (walk.Directory coll 0 no_count)))
-start_offer shape pass stand section call.Note = when_outside section (Some (step 1 (Load place.Epoch)))
-start_offer shape pass stand section (call.Learn other note) = when_outside section (Some (step 1 (Load place.Epoch)))
+start_offer shape pass stand section call.Note = when_outside section (Some (step kind.LoadEpoch (Load place.Epoch)))
+start_offer shape pass stand section (call.Learn other note) = when_outside section (Some (step kind.LoadEpoch (Load place.Epoch)))
 
 -- the one step that the pass offers for the choice
 abbrev pub offer : Layout → ℕ → Stand → Section → Phase → Choice → Option Offer

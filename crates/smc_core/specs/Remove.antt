@@ -6,6 +6,7 @@ use Rattle.smc_shape.specs.declared.place.Place.TheVariants as place
 use Rattle.smc_model.specs.declared.event.Event.TheVariants as event
 use Rattle.smc_core.specs.declared.change.Change.{Change}
 use Rattle.smc_core.specs.declared.done.Done.TheVariants as done
+use Rattle.smc_core.specs.declared.kind.Kind.TheVariants as kind
 use Rattle.smc_core.specs.declared.op.Offer.{Offer}
 use Rattle.smc_core.specs.declared.op.Op.TheVariants.{Store}
 use Rattle.smc_core.specs.declared.phase.Phase.TheVariants as phase
@@ -19,8 +20,8 @@ use Rattle.smc_core.specs.Words.{is_gone}
 
 -- the step of a first remove, in a section at this epoch: what it leaves has the stamp one above
 abbrev pub remove_offer : ℕ → RemovePhase → Offer
-remove_offer epoch (remove.LeaveSlot slot number) = step 22 (Store (place.Directory number.coll slot) (word.Directory (dir.Limbo (epoch + 1))))
-remove_offer epoch (remove.FreeEntry number) = step 23 (Store (place.Entry number.coll number.entry) (word.Entry (state.Free number.incarnation (epoch + 1))))
+remove_offer epoch (remove.LeaveSlot slot number) = step kind.LeaveSlot (Store (place.Directory number.coll slot) (word.Directory (dir.Limbo (epoch + 1))))
+remove_offer epoch (remove.FreeEntry number) = step kind.FreeEntry (Store (place.Entry number.coll number.entry) (word.Entry (state.Free number.incarnation (epoch + 1))))
 
 -- by the entry that was marked: where it had the mark the remove is late
 abbrev pub mark_seen : Number → ℕ → State → Change

@@ -9,6 +9,7 @@ use Rattle.smc_shape.specs.declared.place.Place.TheVariants as place
 use Rattle.smc_model.specs.declared.event.Event.TheVariants as event
 use Rattle.smc_core.specs.declared.change.Change.{Change}
 use Rattle.smc_core.specs.declared.done.Done.TheVariants as done
+use Rattle.smc_core.specs.declared.kind.Kind.TheVariants as kind
 use Rattle.smc_core.specs.declared.local.Scan.{Scan}
 use Rattle.smc_core.specs.declared.op.Offer.{Offer}
 use Rattle.smc_core.specs.declared.op.Op.TheVariants.{Load}
@@ -60,9 +61,9 @@ is_scanned _ = false
 
 -- the step of a scan on its way to its next object
 abbrev pub scan_offer : ℕ → ScanPhase → Offer
-scan_offer pass (scan.Directory number coll slot) = step 10 (Load (place.Directory coll slot))
-scan_offer pass (scan.Back number coll slot) = step 24 (Load (place.Back coll slot))
-scan_offer pass (scan.End number) = step 8 (Load (place.Section pass))
+scan_offer pass (scan.Directory number coll slot) = step kind.LoadDirectory (Load (place.Directory coll slot))
+scan_offer pass (scan.Back number coll slot) = step kind.LoadBack (Load (place.Back coll slot))
+scan_offer pass (scan.End number) = step kind.LoadSection (Load (place.Section pass))
 
 -- the owner of the slot is looked up; a slot without one is passed
 abbrev pub owner_seen : Layout → ℕ → ℕ → ℕ → Option Number → Change
@@ -95,7 +96,7 @@ look_scans scans (seeker.Scan number coll slot) (Helps there copy) = scans
 
 -- the first step of going on with a scan: the directory word of its place, or, where no slot is left, the own word
 abbrev pub next_offer : Layout → ℕ → Scan → Offer
-next_offer shape pass begun = if is_over shape begun then step 8 (Load (place.Section pass)) else step 10 (Load (place.Directory begun.coll begun.place))
+next_offer shape pass begun = if is_over shape begun then step kind.LoadSection (Load (place.Section pass)) else step kind.LoadDirectory (Load (place.Directory begun.coll begun.place))
 
 -- what that step changes; a scan that has ended ends again, without an event
 abbrev pub next_change : Layout → Scan → Word → Change

@@ -5,6 +5,7 @@ use Rattle.smc_shape.specs.declared.place.Place.TheVariants as place
 use Rattle.smc_model.specs.declared.event.Event.TheVariants as event
 use Rattle.smc_core.specs.declared.change.Change.{Change}
 use Rattle.smc_core.specs.declared.done.Done.TheVariants as done
+use Rattle.smc_core.specs.declared.kind.Kind.TheVariants as kind
 use Rattle.smc_core.specs.declared.op.Offer.{Offer}
 use Rattle.smc_core.specs.declared.op.Op.TheVariants.{Load, Store}
 use Rattle.smc_core.specs.declared.phase.Phase.TheVariants.{Idle, Entering}
@@ -33,10 +34,10 @@ calm_by epoch (Some round) = nat_le epoch round.bound
 
 -- the step of enter that follows, by how far it has come
 abbrev pub entering_offer : ℕ → Section → Option Offer
-entering_offer pass (Loaded seen) = Some (step 2 (Store (place.Section pass) (word.Plain seen)))
-entering_offer pass (Announced seen) = Some (step 3 (Load place.Epoch))
-entering_offer pass (Again seen epoch) = Some (step 4 (Store (place.Section pass) (word.Plain epoch)))
-entering_offer pass (Lasting epoch) = Some (step 5 (Load place.Round))
+entering_offer pass (Loaded seen) = Some (step kind.Announce (Store (place.Section pass) (word.Plain seen)))
+entering_offer pass (Announced seen) = Some (step kind.LoadEpochAgain (Load place.Epoch))
+entering_offer pass (Again seen epoch) = Some (step kind.AnnounceAgain (Store (place.Section pass) (word.Plain epoch)))
+entering_offer pass (Lasting epoch) = Some (step kind.LoadRound (Load place.Round))
 entering_offer pass Outside = None
 entering_offer pass (Inside epoch calm) = None
 

@@ -3,13 +3,14 @@ use Rattle.std.specs.Prelude.{ℕ, Bool, true, false, Option, Some, None}
 use Rattle.smc_model.specs.declared.event.Event.{Event}
 use Rattle.smc_core.specs.declared.change.Change.{Change}
 use Rattle.smc_core.specs.declared.done.Done.{Done}
+use Rattle.smc_core.specs.declared.kind.Kind.{Kind}
 use Rattle.smc_core.specs.declared.op.Offer.{Offer}
 use Rattle.smc_core.specs.declared.op.Op.{Op}
 use Rattle.smc_core.specs.declared.phase.Phase.{Phase}
 use Rattle.smc_core.specs.declared.phase.Phase.TheVariants.{Idle}
 
 -- a step of this kind
-abbrev pub step : ℕ → Op → Offer
+abbrev pub step : Kind → Op → Offer
 step kind op = record { kind = kind; op = op }
 
 -- it is offered where the test holds

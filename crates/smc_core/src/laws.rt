@@ -7,6 +7,7 @@ ghost use Rattle.smc_words.specs.declared.dir.Dir.TheVariants.{Free, Claimed, In
 ghost use Rattle.smc_shape.specs.declared.place.Place.TheVariants.{Directory};
 ghost use Rattle.smc_model.specs.declared.event.Cause.TheVariants.{Slots, Entries};
 ghost use Rattle.smc_core.specs.declared.done.Done.TheVariants.{At, Out, Advanced, NotYet, Overtaken, Spent, Made, Full, Here, Null, Value, Written, First, Begun, Visit, End, Round, Nothing, Busy, Finished, Early, Cancelled, Noted, Learned, Surveyed};
+ghost use Rattle.smc_core.specs.declared.kind.Kind.TheVariants.{LoadDirectory};
 ghost use Rattle.smc_core.specs.declared.op.Op.TheVariants.{Load};
 ghost use Rattle.smc_shape.specs.Layout.{Layout};
 ghost use Rattle.smc_core.specs.declared.call.Choice.{Choice};
@@ -57,7 +58,7 @@ pub fn worked_objects()
     ensures two_adds_1 { answers 1 two_adds ≡ At 2 ∷ Made 1 ∷ [] }
     ensures entry_from_the_front_1 { answers 1 entry_from_the_front ≡ At 2 ∷ Made 1 ∷ Here 1 ∷ [] }
     ensures two_claims_slots { dirs (0 ∷ 1 ∷ []) two_claims ≡ Claimed ∷ Free ∷ [] }
-    ensures two_claims_next { offers_next 1 two_claims ≡ Some (step 10 (Load (Directory 0 1))) }
+    ensures two_claims_next { offers_next 1 two_claims ≡ Some (step LoadDirectory (Load (Directory 0 1))) }
     ensures live_last_0 { answers 0 live_last ≡ At 2 ∷ Made 0 ∷ [] }
     ensures live_last_1 { answers 1 live_last ≡ At 2 ∷ Null ∷ Null ∷ Null ∷ Here 0 ∷ Value 7 ∷ [] }
     ensures all_taken_last { last_done (answers 0 all_taken) ≡ Some (Full Slots) }

@@ -1,6 +1,6 @@
 //! The machine: what each pass may do next, one atomic step at a time, over one row of 64-bit words.
 //!
-//! `word` and `op` have what a step reads and writes, `section` and `phase` where a pass stands, `call` what it may
+//! `word` and `op` have what a step reads and writes, `kind` which kinds of step there are, `section` and `phase` where a pass stands, `call` what it may
 //! choose, `change` what a step changes, `done` what a call answers, `local` all that a pass knows, and `laws` what the
 //! definitions say of worked schedules. It stands on the words, the places and the events of the plain world. The
 //! crates above may rely on every definition here: they say in `Steps` and `Reach` what a running region does.
@@ -13,6 +13,7 @@
 mod call;
 mod change;
 mod done;
+mod kind;
 pub mod laws;
 mod local;
 mod op;
@@ -23,6 +24,7 @@ mod word;
 pub use call::{Call, Choice};
 pub use change::Change;
 pub use done::Done;
+pub use kind::{Deed, Kind};
 pub use local::{Answer, Held, Learnt, Local, Opening, Owned, Scan, Stand};
 pub use op::{Offer, Op};
 pub use phase::{

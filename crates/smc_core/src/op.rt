@@ -1,3 +1,4 @@
+use crate::kind::Kind;
 use crate::word::Word;
 use smc_shape::Place;
 
@@ -24,9 +25,9 @@ pub enum Op {
     },
 }
 
-/// A step that a pass may take: its kind, from 1 to 36, and its operation.
+/// A step that a pass may take: its kind and its operation.
 #[derive(Clone, Copy)]
 pub struct Offer {
-    pub kind: u32,
+    pub kind: Kind,
     pub op: Op,
 }

@@ -11,9 +11,9 @@ pub enum Phase {
     Idle,
     /// The section says how far its beginning has come.
     Entering,
-    /// Loads the section word of `pass` (8).
+    /// Loads the section word of `pass`.
     Advancing { epoch: u64, pass: u32 },
-    /// Moves the epoch on (9).
+    /// Moves the epoch on.
     Ready { epoch: u64 },
     Look(LookPhase),
     Add(AddPhase),

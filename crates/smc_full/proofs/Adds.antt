@@ -15,6 +15,7 @@ use Rattle.smc_core.specs.declared.call.Choice.TheVariants.{Start, Go}
 use Rattle.smc_core.specs.declared.change.Change.{Change}
 use Rattle.smc_core.specs.declared.done.Done.{Done}
 use Rattle.smc_core.specs.declared.done.Done.TheVariants as done
+use Rattle.smc_core.specs.declared.kind.Kind.TheVariants as kind
 use Rattle.smc_core.specs.declared.local.Opening.{Opening}
 use Rattle.smc_core.specs.declared.local.Owned.{Owned}
 use Rattle.smc_core.specs.declared.op.Op.{Op}
@@ -188,7 +189,7 @@ module _ (opening : Opening) (shape : Layout) (pass : ℕ) (first : Memory) (col
   add-starts s u aside within section owned phase.Idle at_sec at_round at_call p =
       subst (λ (k : Section). HoldsAfter Says shape pass s k owned phase.Idle (Start (call.Add coll from0 words))) (sym p.inside) (may (takes shape coll from0 words) refl)
     where
-      may : (b : Bool) → takes shape coll from0 words ≡ b → IfSome (when b (step 10 (Load (place.Directory coll from0)))) (λ o. (told : ℕ)
+      may : (b : Bool) → takes shape coll from0 words ≡ b → IfSome (when b (step kind.LoadDirectory (Load (place.Directory coll from0)))) (λ o. (told : ℕ)
           → AfterChange Says (apply o.op s.memory) s.world (Inside epoch calm) owned (change shape pass (s.stands pass) (Inside epoch calm) phase.Idle (Start (call.Add coll from0 words)) told (seen o.op s.memory)))
       may true t = λ told. record {
         inside = refl;

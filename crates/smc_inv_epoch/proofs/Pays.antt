@@ -5,6 +5,7 @@ use Rattle.smc_words.specs.declared.number.Number.{Number}
 use Rattle.smc_shape.specs.Layout.{Layout, IsShape}
 use Rattle.smc_shape.specs.declared.place.Place.TheVariants as place
 use Rattle.smc_core.specs.declared.call.Choice.{Choice}
+use Rattle.smc_core.specs.declared.kind.Kind.TheVariants as kind
 use Rattle.smc_core.specs.declared.local.Owned.{Owned}
 use Rattle.smc_core.specs.declared.local.Scan.{Scan}
 use Rattle.smc_core.specs.declared.local.Stand.{Stand}
@@ -79,7 +80,7 @@ module _ (shape : Layout) (state : State) (pass : ℕ) (h : Epochs shape state) 
   Bears o = Fits shape o × IsTrue (Q.leaves o.op)
 
   -- a load of the own section word
-  pub own_load : Bears (step 8 (Load (place.Section pass)))
+  pub own_load : Bears (step kind.LoadSection (Load (place.Section pass)))
   own_load = (λ u. within, refl)
 
   pub look_start-bears : (number : Number) → Bears (look_start shape pass number)

@@ -22,7 +22,7 @@ use Rattle.smc_agreement.specs.Kept.{Nothing}
 use Rattle.smc_agreement.specs.Agreement.{CallsAgree}
 use Rattle.smc_agreement.proofs.Whole.{Shut, calls, claims, objects, moves, did, sections}
 
--- kind 19
+-- kind LoadField
 pub read : (sh : Layout) (st : S.State) (p : ℕ) (x : ℕ) (calm : Bool) (c : ℕ) (a : ℕ) (e : ℕ) (q : ℕ) (f : ℕ) (told : ℕ) → p < sh.passes → (st.stands p).section ≡ Inside x calm → (st.stands p).phase ≡ phase.Idle → held_slot (st.stands p).held (object a e c) ≡ Some q → nat_lt f (width_of sh c) ≡ true → Shut sh st → Nothing sh st
     → CallsAgree sh (did sh st p (Start (call.Read (object a e c) f)) (Inside x calm) phase.Idle told (Load (place.Field c q f)))
 read sh st p x calm c a e q f told in_n at_sec at_call pre1 pre2 h _ = record {
@@ -49,7 +49,7 @@ read sh st p x calm c a e q f told in_n at_sec at_call pre1 pre2 h _ = record {
   c_passed = λ i c' s' li is. grind (arith, nat_tests, (calls h).c_passed i c' s' li, (calls h).calls p in_n, sections sh st h p in_n);
 }
 
--- kind 20
+-- kind WriteField
 pub write : (sh : Layout) (st : S.State) (p : ℕ) (x : ℕ) (calm : Bool) (c : ℕ) (a : ℕ) (e : ℕ) (q : ℕ) (f : ℕ) (w : ℕ) (told : ℕ) → p < sh.passes → (st.stands p).section ≡ Inside x calm → (st.stands p).phase ≡ phase.Idle → held_slot (st.stands p).held (object a e c) ≡ Some q → (nat_lt f (width_of sh c) && is_value w) ≡ true → Shut sh st → Nothing sh st
     → CallsAgree sh (did sh st p (Start (call.Write (object a e c) f w)) (Inside x calm) phase.Idle told (Store (place.Field c q f) (word.Plain w)))
 write sh st p x calm c a e q f w told in_n at_sec at_call pre1 pre2 h _ = record {
@@ -76,7 +76,7 @@ write sh st p x calm c a e q f w told in_n at_sec at_call pre1 pre2 h _ = record
   c_passed = λ i c' s' li is. grind (arith, nat_tests, (calls h).c_passed i c' s' li, (objects h).held p c a e q in_n pre1, (calls h).calls p in_n, sections sh st h p in_n);
 }
 
--- kind 21
+-- kind MarkGone
 pub starts_remove : (sh : Layout) (st : S.State) (p : ℕ) (x : ℕ) (calm : Bool) (c : ℕ) (a : ℕ) (e : ℕ) (q : ℕ) (told : ℕ) → p < sh.passes → (st.stands p).section ≡ Inside x calm → (st.stands p).phase ≡ phase.Idle → held_slot (st.stands p).held (object a e c) ≡ Some q → Shut sh st → Nothing sh st
     → CallsAgree sh (did sh st p (Start (call.Remove (object a e c))) (Inside x calm) phase.Idle told (MarkGone c e))
 starts_remove sh st p x calm c a e q told in_n at_sec at_call pre1 h _ = record {
@@ -103,7 +103,7 @@ starts_remove sh st p x calm c a e q told in_n at_sec at_call pre1 h _ = record 
   c_passed = λ i c' s' li is. grind (arith, nat_tests, (calls h).c_passed i c' s' li, (objects h).held p c a e q in_n pre1, (calls h).calls p in_n, sections sh st h p in_n);
 }
 
--- kind 22
+-- kind LeaveSlot
 pub leave_slot : (sh : Layout) (st : S.State) (p : ℕ) (x : ℕ) (calm : Bool) (c : ℕ) (a : ℕ) (e : ℕ) (q : ℕ) (told : ℕ) → p < sh.passes → (st.stands p).section ≡ Inside x calm → (st.stands p).phase ≡ phase.Remove (remove.LeaveSlot q (object a e c)) → Shut sh st → Nothing sh st
     → CallsAgree sh (did sh st p Go (Inside x calm) (phase.Remove (remove.LeaveSlot q (object a e c))) told (Store (place.Directory c q) (word.Directory (dir.Limbo (x + 1)))))
 leave_slot sh st p x calm c a e q told in_n at_sec at_call h _ = record {
@@ -130,7 +130,7 @@ leave_slot sh st p x calm c a e q told in_n at_sec at_call h _ = record {
   c_passed = λ i c' s' li is. grind (arith, nat_tests, (calls h).c_passed i c' s' li, (calls h).c_removes p c a e in_n, (calls h).c_leaving p c q a e in_n, (calls h).c_limbos p c q a e in_n, (calls h).calls p in_n, sections sh st h p in_n);
 }
 
--- kind 23
+-- kind FreeEntry
 pub free_entry : (sh : Layout) (st : S.State) (p : ℕ) (x : ℕ) (calm : Bool) (c : ℕ) (a : ℕ) (e : ℕ) (told : ℕ) → p < sh.passes → (st.stands p).section ≡ Inside x calm → (st.stands p).phase ≡ phase.Remove (remove.FreeEntry (object a e c)) → Shut sh st → Nothing sh st
     → CallsAgree sh (did sh st p Go (Inside x calm) (phase.Remove (remove.FreeEntry (object a e c))) told (Store (place.Entry c e) (word.Entry (state.Free a (x + 1)))))
 free_entry sh st p x calm c a e told in_n at_sec at_call h _ = record {

@@ -20,7 +20,7 @@ use Rattle.smc_agreement.specs.Kept.{Nothing}
 use Rattle.smc_agreement.specs.Agreement.{CallsAgree}
 use Rattle.smc_agreement.proofs.Whole.{Shut, calls, did, sections}
 
--- kind 25
+-- kind LookUp
 pub starts_look : (sh : Layout) (st : S.State) (p : ℕ) (x : ℕ) (calm : Bool) (c : ℕ) (a : ℕ) (e : ℕ) (told : ℕ) → p < sh.passes → (st.stands p).section ≡ Inside x calm → (st.stands p).phase ≡ phase.Idle → has_place sh (place.Entry c e) ≡ true → Shut sh st → Nothing sh st
     → CallsAgree sh (did sh st p (Start (call.Look (object a e c))) (Inside x calm) phase.Idle told (Load (place.Entry c e)))
 starts_look sh st p x calm c a e told in_n at_sec at_call pre1 h _ = record {
@@ -47,7 +47,7 @@ starts_look sh st p x calm c a e told in_n at_sec at_call pre1 h _ = record {
   c_passed = λ i c' s' li is. grind (arith, nat_tests, (calls h).c_passed i c' s' li, (calls h).calls p in_n, sections sh st h p in_n);
 }
 
--- kind 8
+-- kind LoadSection
 pub look_out : (sh : Layout) (st : S.State) (p : ℕ) (x : ℕ) (calm : Bool) (c : ℕ) (a : ℕ) (e : ℕ) (told : ℕ) → p < sh.passes → (st.stands p).section ≡ Inside x calm → (st.stands p).phase ≡ phase.Idle → has_place sh (place.Entry c e) ≡ false → Shut sh st → Nothing sh st
     → CallsAgree sh (did sh st p (Start (call.Look (object a e c))) (Inside x calm) phase.Idle told (Load (place.Section p)))
 look_out sh st p x calm c a e told in_n at_sec at_call pre1 h _ = record {
@@ -74,7 +74,7 @@ look_out sh st p x calm c a e told in_n at_sec at_call pre1 h _ = record {
   c_passed = λ i c' s' li is. grind (arith, nat_tests, (calls h).c_passed i c' s' li, (calls h).calls p in_n, sections sh st h p in_n);
 }
 
--- kind 25
+-- kind LookUp
 pub look_load : (sh : Layout) (st : S.State) (p : ℕ) (x : ℕ) (calm : Bool) (who : Seeker) (c : ℕ) (a : ℕ) (e : ℕ) (told : ℕ) → p < sh.passes → (st.stands p).section ≡ Inside x calm → (st.stands p).phase ≡ phase.Look (look.Load who (object a e c)) → Shut sh st → Nothing sh st
     → CallsAgree sh (did sh st p Go (Inside x calm) (phase.Look (look.Load who (object a e c))) told (Load (place.Entry c e)))
 look_load sh st p x calm who c a e told in_n at_sec at_call h _ = record {
@@ -101,7 +101,7 @@ look_load sh st p x calm who c a e told in_n at_sec at_call h _ = record {
   c_passed = λ i c' s' li is. grind (arith, nat_tests, (calls h).c_passed i c' s' li, (calls h).calls p in_n, sections sh st h p in_n);
 }
 
--- kind 30
+-- kind Unfreeze
 pub abandon : (sh : Layout) (st : S.State) (p : ℕ) (x : ℕ) (calm : Bool) (who : Seeker) (c : ℕ) (a : ℕ) (e : ℕ) (q : ℕ) (told : ℕ) → p < sh.passes → (st.stands p).section ≡ Inside x calm → (st.stands p).phase ≡ phase.Look (look.Abandon who (object a e c) q) → Shut sh st → Nothing sh st
     → CallsAgree sh (did sh st p Go (Inside x calm) (phase.Look (look.Abandon who (object a e c) q)) told (Exchange (place.Entry c e) (word.Entry (state.Frozen a q)) (word.Entry (state.Present a q))))
 abandon sh st p x calm who c a e q told in_n at_sec at_call h _ = record {

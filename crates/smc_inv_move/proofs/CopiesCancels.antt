@@ -19,7 +19,7 @@ use Rattle.smc_agreement.specs.Kept.{Nothing}
 use Rattle.smc_agreement.specs.Agreement.{CopiesAgree}
 use Rattle.smc_agreement.proofs.Whole.{Shut, calls, copies, moves, did, sections}
 
--- kind 10
+-- kind LoadDirectory
 pub starts_cancel : (sh : Layout) (st : S.State) (p : ℕ) (x : ℕ) (calm : Bool) (b : ℕ) (c : ℕ) (told : ℕ) → p < sh.passes → (st.stands p).section ≡ Inside x calm → (st.stands p).phase ≡ phase.Idle → (st.stands p).round ≡ Some (record { bound = b; coll = c }) → Shut sh st → Nothing sh st
     → CopiesAgree sh (did sh st p (Start call.Cancel) (Inside x calm) phase.Idle told (Load (place.Directory c 0)))
 starts_cancel sh st p x calm b c told in_n at_sec at_call pre1 h _ = record {
@@ -32,7 +32,7 @@ starts_cancel sh st p x calm b c told in_n at_sec at_call pre1 h _ = record {
   j_back = λ i c' a' e' s' n' li is inc. grind (arith, nat_tests, (copies h).j_back i c' a' e' s' n' li, (calls h).calls p in_n, sections sh st h p in_n);
 }
 
--- kind 10
+-- kind LoadDirectory
 pub cancel_dir : (sh : Layout) (st : S.State) (p : ℕ) (x : ℕ) (calm : Bool) (c : ℕ) (t : ℕ) (told : ℕ) → p < sh.passes → (st.stands p).section ≡ Inside x calm → (st.stands p).phase ≡ phase.Cancel (cancel.Directory c t) → Shut sh st → Nothing sh st
     → CopiesAgree sh (did sh st p Go (Inside x calm) (phase.Cancel (cancel.Directory c t)) told (Load (place.Directory c t)))
 cancel_dir sh st p x calm c t told in_n at_sec at_call h _ = record {
@@ -45,7 +45,7 @@ cancel_dir sh st p x calm c t told in_n at_sec at_call h _ = record {
   j_back = λ i c' a' e' s' n' li is inc. grind (arith, nat_tests, (copies h).j_back i c' a' e' s' n' li, (calls h).calls p in_n, sections sh st h p in_n);
 }
 
--- kind 24
+-- kind LoadBack
 pub cancel_back : (sh : Layout) (st : S.State) (p : ℕ) (x : ℕ) (calm : Bool) (c : ℕ) (t : ℕ) (told : ℕ) → p < sh.passes → (st.stands p).section ≡ Inside x calm → (st.stands p).phase ≡ phase.Cancel (cancel.Back c t) → Shut sh st → Nothing sh st
     → CopiesAgree sh (did sh st p Go (Inside x calm) (phase.Cancel (cancel.Back c t)) told (Load (place.Back c t)))
 cancel_back sh st p x calm c t told in_n at_sec at_call h _ = record {
@@ -58,7 +58,7 @@ cancel_back sh st p x calm c t told in_n at_sec at_call h _ = record {
   j_back = λ i c' a' e' s' n' li is inc. grind (arith, nat_tests, (copies h).j_back i c' a' e' s' n' li, (calls h).c_target p c t in_n, (calls h).calls p in_n, sections sh st h p in_n);
 }
 
--- kind 13
+-- kind LoadEntry
 pub cancel_entry : (sh : Layout) (st : S.State) (p : ℕ) (x : ℕ) (calm : Bool) (c : ℕ) (t : ℕ) (a : ℕ) (e : ℕ) (told : ℕ) → p < sh.passes → (st.stands p).section ≡ Inside x calm → (st.stands p).phase ≡ phase.Cancel (cancel.Entry c t (object a e c)) → Shut sh st → Nothing sh st
     → CopiesAgree sh (did sh st p Go (Inside x calm) (phase.Cancel (cancel.Entry c t (object a e c))) told (Load (place.Entry c e)))
 cancel_entry sh st p x calm c t a e told in_n at_sec at_call h _ = record {
@@ -71,7 +71,7 @@ cancel_entry sh st p x calm c t a e told in_n at_sec at_call h _ = record {
   j_back = λ i c' a' e' s' n' li is inc. grind (arith, nat_tests, (copies h).j_back i c' a' e' s' n' li, (calls h).c_named p c t a e in_n, (calls h).c_target p c t in_n, (calls h).calls p in_n, sections sh st h p in_n);
 }
 
--- kind 30
+-- kind Unfreeze
 pub unfreeze : (sh : Layout) (st : S.State) (p : ℕ) (x : ℕ) (calm : Bool) (c : ℕ) (t : ℕ) (a : ℕ) (e : ℕ) (q : ℕ) (told : ℕ) → p < sh.passes → (st.stands p).section ≡ Inside x calm → (st.stands p).phase ≡ phase.Cancel (cancel.Unfreeze c t (object a e c) q) → Shut sh st → Nothing sh st
     → CopiesAgree sh (did sh st p Go (Inside x calm) (phase.Cancel (cancel.Unfreeze c t (object a e c) q)) told (Exchange (place.Entry c e) (word.Entry (state.Frozen a q)) (word.Entry (state.Present a q))))
 unfreeze sh st p x calm c t a e q told in_n at_sec at_call h _ = record {
@@ -84,7 +84,7 @@ unfreeze sh st p x calm c t a e q told in_n at_sec at_call h _ = record {
   j_back = λ i c' a' e' s' n' li is inc. grind (arith, nat_tests, (copies h).j_back i c' a' e' s' n' li, (calls h).c_named p c t a e in_n, (calls h).c_target p c t in_n, (calls h).c_tries p c q a e in_n, (calls h).calls p in_n, sections sh st h p in_n);
 }
 
--- kind 22
+-- kind LeaveSlot
 pub cancel_gives : (sh : Layout) (st : S.State) (p : ℕ) (x : ℕ) (calm : Bool) (c : ℕ) (t : ℕ) (told : ℕ) → p < sh.passes → (st.stands p).section ≡ Inside x calm → (st.stands p).phase ≡ phase.Cancel (cancel.GiveUp c t) → Shut sh st → Nothing sh st
     → CopiesAgree sh (did sh st p Go (Inside x calm) (phase.Cancel (cancel.GiveUp c t)) told (Store (place.Directory c t) (word.Directory (dir.Limbo (x + 1)))))
 cancel_gives sh st p x calm c t told in_n at_sec at_call h _ = record {
@@ -97,7 +97,7 @@ cancel_gives sh st p x calm c t told in_n at_sec at_call h _ = record {
   j_back = λ i c' a' e' s' n' li is inc. grind (arith, nat_tests, (copies h).j_back i c' a' e' s' n' li, (calls h).c_target p c t in_n, (calls h).c_loose p c t a' e' in_n, (calls h).calls p in_n, sections sh st h p in_n);
 }
 
--- kind 36
+-- kind CloseRound
 pub cancel_ends : (sh : Layout) (st : S.State) (p : ℕ) (x : ℕ) (calm : Bool) (told : ℕ) → p < sh.passes → (st.stands p).section ≡ Inside x calm → (st.stands p).phase ≡ phase.Cancel cancel.End → Shut sh st → Nothing sh st
     → CopiesAgree sh (did sh st p Go (Inside x calm) (phase.Cancel cancel.End) told (Store place.Round (word.Round None)))
 cancel_ends sh st p x calm told in_n at_sec at_call h _ = record {

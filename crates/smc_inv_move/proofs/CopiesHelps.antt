@@ -20,7 +20,7 @@ use Rattle.smc_agreement.specs.Kept.{Nothing}
 use Rattle.smc_agreement.specs.Agreement.{CopiesAgree}
 use Rattle.smc_agreement.proofs.Whole.{Shut, calls, copies, did, sections}
 
--- kind 32
+-- kind LoadForward
 pub l_fwd : (sh : Layout) (st : S.State) (p : ℕ) (x : ℕ) (calm : Bool) (who : Seeker) (c : ℕ) (a : ℕ) (e : ℕ) (q : ℕ) (told : ℕ) → p < sh.passes → (st.stands p).section ≡ Inside x calm → (st.stands p).phase ≡ phase.Look (look.Help who (object a e c) q copy.Target) → Shut sh st → Nothing sh st
     → CopiesAgree sh (did sh st p Go (Inside x calm) (phase.Look (look.Help who (object a e c) q copy.Target)) told (Load (place.Forward c q)))
 l_fwd sh st p x calm who c a e q told in_n at_sec at_call h _ = record {
@@ -33,7 +33,7 @@ l_fwd sh st p x calm who c a e q told in_n at_sec at_call h _ = record {
   j_back = λ i c' a' e' s' n' li is inc. grind (arith, nat_tests, (copies h).j_back i c' a' e' s' n' li, (copies h).j_named p c a e q copy.Target in_n, (copies h).j_led p c a e q copy.Target in_n, (copies h).j_entry p c a e q copy.Target in_n, (copies h).j_locked p c a e q copy.Target in_n, (copies h).j_left p c a e q copy.Target in_n, (copies h).j_for p c a e q copy.Target in_n, (copies h).j_back p c a e q copy.Target in_n, (calls h).calls p in_n, sections sh st h p in_n);
 }
 
--- kind 19
+-- kind LoadField
 pub l_read : (sh : Layout) (st : S.State) (p : ℕ) (x : ℕ) (calm : Bool) (who : Seeker) (c : ℕ) (a : ℕ) (e : ℕ) (q : ℕ) (t : ℕ) (f : ℕ) (told : ℕ) → p < sh.passes → (st.stands p).section ≡ Inside x calm → (st.stands p).phase ≡ phase.Look (look.Help who (object a e c) q (copy.Load t f)) → Shut sh st → Nothing sh st
     → CopiesAgree sh (did sh st p Go (Inside x calm) (phase.Look (look.Help who (object a e c) q (copy.Load t f))) told (Load (place.Field c q f)))
 l_read sh st p x calm who c a e q t f told in_n at_sec at_call h _ = record {
@@ -46,7 +46,7 @@ l_read sh st p x calm who c a e q t f told in_n at_sec at_call h _ = record {
   j_back = λ i c' a' e' s' n' li is inc. grind (arith, nat_tests, (copies h).j_back i c' a' e' s' n' li, (copies h).j_named p c a e q (copy.Load t f) in_n, (copies h).j_led p c a e q (copy.Load t f) in_n, (copies h).j_entry p c a e q (copy.Load t f) in_n, (copies h).j_locked p c a e q (copy.Load t f) in_n, (copies h).j_left p c a e q (copy.Load t f) in_n, (copies h).j_for p c a e q (copy.Load t f) in_n, (copies h).j_back p c a e q (copy.Load t f) in_n, (calls h).calls p in_n, sections sh st h p in_n);
 }
 
--- kind 33
+-- kind CopyField
 pub l_put : (sh : Layout) (st : S.State) (p : ℕ) (x : ℕ) (calm : Bool) (who : Seeker) (c : ℕ) (a : ℕ) (e : ℕ) (q : ℕ) (t : ℕ) (f : ℕ) (w : ℕ) (told : ℕ) → p < sh.passes → (st.stands p).section ≡ Inside x calm → (st.stands p).phase ≡ phase.Look (look.Help who (object a e c) q (copy.Put t f w)) → Shut sh st → Nothing sh st
     → CopiesAgree sh (did sh st p Go (Inside x calm) (phase.Look (look.Help who (object a e c) q (copy.Put t f w))) told (Exchange (place.Field c t f) (word.Plain BLANK) (word.Plain w)))
 l_put sh st p x calm who c a e q t f w told in_n at_sec at_call h _ = record {
@@ -59,7 +59,7 @@ l_put sh st p x calm who c a e q t f w told in_n at_sec at_call h _ = record {
   j_back = λ i c' a' e' s' n' li is inc. grind (arith, nat_tests, (copies h).j_back i c' a' e' s' n' li, (copies h).j_named p c a e q (copy.Put t f w) in_n, (copies h).j_led p c a e q (copy.Put t f w) in_n, (copies h).j_entry p c a e q (copy.Put t f w) in_n, (copies h).j_locked p c a e q (copy.Put t f w) in_n, (copies h).j_left p c a e q (copy.Put t f w) in_n, (copies h).j_for p c a e q (copy.Put t f w) in_n, (copies h).j_back p c a e q (copy.Put t f w) in_n, (calls h).calls p in_n, sections sh st h p in_n);
 }
 
--- kind 34
+-- kind Swing
 pub l_swing : (sh : Layout) (st : S.State) (p : ℕ) (x : ℕ) (calm : Bool) (who : Seeker) (c : ℕ) (a : ℕ) (e : ℕ) (q : ℕ) (t : ℕ) (told : ℕ) → p < sh.passes → (st.stands p).section ≡ Inside x calm → (st.stands p).phase ≡ phase.Look (look.Help who (object a e c) q (copy.Swing t)) → Shut sh st → Nothing sh st
     → CopiesAgree sh (did sh st p Go (Inside x calm) (phase.Look (look.Help who (object a e c) q (copy.Swing t))) told (Exchange (place.Entry c e) (word.Entry (state.Locked a q)) (word.Entry (state.Present a t))))
 l_swing sh st p x calm who c a e q t told in_n at_sec at_call h _ = record {

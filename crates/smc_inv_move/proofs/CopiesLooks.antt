@@ -24,7 +24,7 @@ use Rattle.smc_agreement.specs.Agreement.{CopiesAgree}
 use Rattle.smc_agreement.proofs.Whole.{Shut, calls, copies, did, sections}
 use Rattle.smc_agreement.proofs.CrossLaws.{by_eq, load_copies, start_copies, copy_start}
 
--- kind 25
+-- kind LookUp
 pub starts_look : (sh : Layout) (st : S.State) (p : ℕ) (x : ℕ) (calm : Bool) (c : ℕ) (a : ℕ) (e : ℕ) (told : ℕ) → p < sh.passes → (st.stands p).section ≡ Inside x calm → (st.stands p).phase ≡ phase.Idle → has_place sh (place.Entry c e) ≡ true → Shut sh st → Nothing sh st
     → CopiesAgree sh (did sh st p (Start (call.Look (object a e c))) (Inside x calm) phase.Idle told (Load (place.Entry c e)))
 starts_look sh st p x calm c a e told in_n at_sec at_call pre1 h _ = record {
@@ -37,7 +37,7 @@ starts_look sh st p x calm c a e told in_n at_sec at_call pre1 h _ = record {
   j_back = λ i c' a' e' s' n' li is inc. by_eq i p (λ y. let z = subst (λ (l : Stand). copying_of l.phase ≡ Some (record { number = object a' e' c'; source = s'; next = n' })) (put_stand-same st.stands p i _ y) is in let (u, v, u2, n, k) = start_copies sh calm a e c (st.memory (place.Entry c e)) a' e' c' s' n' pre1 z in grind (arith, nat_tests, copy_start sh st h c' a' e' s')) (λ n. grind (arith, nat_tests, (copies h).j_back i c' a' e' s' n' li));
 }
 
--- kind 8
+-- kind LoadSection
 pub look_out : (sh : Layout) (st : S.State) (p : ℕ) (x : ℕ) (calm : Bool) (c : ℕ) (a : ℕ) (e : ℕ) (told : ℕ) → p < sh.passes → (st.stands p).section ≡ Inside x calm → (st.stands p).phase ≡ phase.Idle → has_place sh (place.Entry c e) ≡ false → Shut sh st → Nothing sh st
     → CopiesAgree sh (did sh st p (Start (call.Look (object a e c))) (Inside x calm) phase.Idle told (Load (place.Section p)))
 look_out sh st p x calm c a e told in_n at_sec at_call pre1 h _ = record {
@@ -50,7 +50,7 @@ look_out sh st p x calm c a e told in_n at_sec at_call pre1 h _ = record {
   j_back = λ i c' a' e' s' n' li is inc. grind (arith, nat_tests, (copies h).j_back i c' a' e' s' n' li, (calls h).calls p in_n, sections sh st h p in_n);
 }
 
--- kind 25
+-- kind LookUp
 pub look_load : (sh : Layout) (st : S.State) (p : ℕ) (x : ℕ) (calm : Bool) (who : Seeker) (c : ℕ) (a : ℕ) (e : ℕ) (told : ℕ) → p < sh.passes → (st.stands p).section ≡ Inside x calm → (st.stands p).phase ≡ phase.Look (look.Load who (object a e c)) → Shut sh st → Nothing sh st
     → CopiesAgree sh (did sh st p Go (Inside x calm) (phase.Look (look.Load who (object a e c))) told (Load (place.Entry c e)))
 look_load sh st p x calm who c a e told in_n at_sec at_call h _ = record {
@@ -63,7 +63,7 @@ look_load sh st p x calm who c a e told in_n at_sec at_call h _ = record {
   j_back = λ i c' a' e' s' n' li is inc. by_eq i p (λ y. let z = subst (λ (l : Stand). copying_of l.phase ≡ Some (record { number = object a' e' c'; source = s'; next = n' })) (put_stand-same st.stands p i _ y) is in let (u, v, u2, n, k) = load_copies sh who calm a e c (state_in st.memory c e) a' e' c' s' n' z in grind (arith, nat_tests, copy_start sh st h c' a' e' s')) (λ n. grind (arith, nat_tests, (copies h).j_back i c' a' e' s' n' li));
 }
 
--- kind 30
+-- kind Unfreeze
 pub abandon : (sh : Layout) (st : S.State) (p : ℕ) (x : ℕ) (calm : Bool) (who : Seeker) (c : ℕ) (a : ℕ) (e : ℕ) (q : ℕ) (told : ℕ) → p < sh.passes → (st.stands p).section ≡ Inside x calm → (st.stands p).phase ≡ phase.Look (look.Abandon who (object a e c) q) → Shut sh st → Nothing sh st
     → CopiesAgree sh (did sh st p Go (Inside x calm) (phase.Look (look.Abandon who (object a e c) q)) told (Exchange (place.Entry c e) (word.Entry (state.Frozen a q)) (word.Entry (state.Present a q))))
 abandon sh st p x calm who c a e q told in_n at_sec at_call h _ = record {

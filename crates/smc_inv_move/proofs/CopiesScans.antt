@@ -20,7 +20,7 @@ use Rattle.smc_agreement.specs.Kept.{Nothing}
 use Rattle.smc_agreement.specs.Agreement.{CopiesAgree}
 use Rattle.smc_agreement.proofs.Whole.{Shut, calls, copies, did, sections}
 
--- kind 8
+-- kind LoadSection
 pub starts_scan : (sh : Layout) (st : S.State) (p : ℕ) (x : ℕ) (calm : Bool) (c : ℕ) (told : ℕ) → p < sh.passes → (st.stands p).section ≡ Inside x calm → (st.stands p).phase ≡ phase.Idle → Shut sh st → Nothing sh st
     → CopiesAgree sh (did sh st p (Start (call.Scan c)) (Inside x calm) phase.Idle told (Load (place.Section p)))
 starts_scan sh st p x calm c told in_n at_sec at_call h _ = record {
@@ -33,7 +33,7 @@ starts_scan sh st p x calm c told in_n at_sec at_call h _ = record {
   j_back = λ i c' a' e' s' n' li is inc. grind (arith, nat_tests, (copies h).j_back i c' a' e' s' n' li, (calls h).calls p in_n, sections sh st h p in_n);
 }
 
--- kind 8
+-- kind LoadSection
 pub next_over : (sh : Layout) (st : S.State) (p : ℕ) (x : ℕ) (calm : Bool) (k : ℕ) (b1 : Scan) (told : ℕ) → p < sh.passes → (st.stands p).section ≡ Inside x calm → (st.stands p).phase ≡ phase.Idle → scan_of (st.stands p).scans k ≡ Some b1 → is_over sh b1 ≡ true → Shut sh st → Nothing sh st
     → CopiesAgree sh (did sh st p (Start (call.Next k)) (Inside x calm) phase.Idle told (Load (place.Section p)))
 next_over sh st p x calm k b1 told in_n at_sec at_call pre1 pre2 h _ = record {
@@ -46,7 +46,7 @@ next_over sh st p x calm k b1 told in_n at_sec at_call pre1 pre2 h _ = record {
   j_back = λ i c' a' e' s' n' li is inc. grind (arith, nat_tests, (copies h).j_back i c' a' e' s' n' li, (calls h).calls p in_n, sections sh st h p in_n);
 }
 
--- kind 10
+-- kind LoadDirectory
 pub next_slot : (sh : Layout) (st : S.State) (p : ℕ) (x : ℕ) (calm : Bool) (k : ℕ) (b1 : Scan) (told : ℕ) → p < sh.passes → (st.stands p).section ≡ Inside x calm → (st.stands p).phase ≡ phase.Idle → scan_of (st.stands p).scans k ≡ Some b1 → is_over sh b1 ≡ false → Shut sh st → Nothing sh st
     → CopiesAgree sh (did sh st p (Start (call.Next k)) (Inside x calm) phase.Idle told (Load (place.Directory b1.coll b1.place)))
 next_slot sh st p x calm k b1 told in_n at_sec at_call pre1 pre2 h _ = record {
@@ -59,7 +59,7 @@ next_slot sh st p x calm k b1 told in_n at_sec at_call pre1 pre2 h _ = record {
   j_back = λ i c' a' e' s' n' li is inc. grind (arith, nat_tests, (copies h).j_back i c' a' e' s' n' li, (calls h).calls p in_n, sections sh st h p in_n);
 }
 
--- kind 10
+-- kind LoadDirectory
 pub scan_dir : (sh : Layout) (st : S.State) (p : ℕ) (x : ℕ) (calm : Bool) (k : ℕ) (c : ℕ) (t : ℕ) (told : ℕ) → p < sh.passes → (st.stands p).section ≡ Inside x calm → (st.stands p).phase ≡ phase.Scan (scan.Directory k c t) → Shut sh st → Nothing sh st
     → CopiesAgree sh (did sh st p Go (Inside x calm) (phase.Scan (scan.Directory k c t)) told (Load (place.Directory c t)))
 scan_dir sh st p x calm k c t told in_n at_sec at_call h _ = record {
@@ -72,7 +72,7 @@ scan_dir sh st p x calm k c t told in_n at_sec at_call h _ = record {
   j_back = λ i c' a' e' s' n' li is inc. grind (arith, nat_tests, (copies h).j_back i c' a' e' s' n' li, (calls h).calls p in_n, sections sh st h p in_n);
 }
 
--- kind 24
+-- kind LoadBack
 pub scan_back : (sh : Layout) (st : S.State) (p : ℕ) (x : ℕ) (calm : Bool) (k : ℕ) (c : ℕ) (t : ℕ) (told : ℕ) → p < sh.passes → (st.stands p).section ≡ Inside x calm → (st.stands p).phase ≡ phase.Scan (scan.Back k c t) → Shut sh st → Nothing sh st
     → CopiesAgree sh (did sh st p Go (Inside x calm) (phase.Scan (scan.Back k c t)) told (Load (place.Back c t)))
 scan_back sh st p x calm k c t told in_n at_sec at_call h _ = record {
@@ -85,7 +85,7 @@ scan_back sh st p x calm k c t told in_n at_sec at_call h _ = record {
   j_back = λ i c' a' e' s' n' li is inc. grind (arith, nat_tests, (copies h).j_back i c' a' e' s' n' li, (calls h).calls p in_n, sections sh st h p in_n);
 }
 
--- kind 8
+-- kind LoadSection
 pub scan_end : (sh : Layout) (st : S.State) (p : ℕ) (x : ℕ) (calm : Bool) (k : ℕ) (told : ℕ) → p < sh.passes → (st.stands p).section ≡ Inside x calm → (st.stands p).phase ≡ phase.Scan (scan.End k) → Shut sh st → Nothing sh st
     → CopiesAgree sh (did sh st p Go (Inside x calm) (phase.Scan (scan.End k)) told (Load (place.Section p)))
 scan_end sh st p x calm k told in_n at_sec at_call h _ = record {
@@ -98,7 +98,7 @@ scan_end sh st p x calm k told in_n at_sec at_call h _ = record {
   j_back = λ i c' a' e' s' n' li is inc. grind (arith, nat_tests, (copies h).j_back i c' a' e' s' n' li, (calls h).calls p in_n, sections sh st h p in_n);
 }
 
--- kind 10
+-- kind LoadDirectory
 pub survey : (sh : Layout) (st : S.State) (p : ℕ) (x : ℕ) (calm : Bool) (c : ℕ) (told : ℕ) → p < sh.passes → (st.stands p).section ≡ Inside x calm → (st.stands p).phase ≡ phase.Idle → Shut sh st → Nothing sh st
     → CopiesAgree sh (did sh st p (Start (call.Survey c)) (Inside x calm) phase.Idle told (Load (place.Directory c 0)))
 survey sh st p x calm c told in_n at_sec at_call h _ = record {
@@ -111,7 +111,7 @@ survey sh st p x calm c told in_n at_sec at_call h _ = record {
   j_back = λ i c' a' e' s' n' li is inc. grind (arith, nat_tests, (copies h).j_back i c' a' e' s' n' li, (calls h).calls p in_n, sections sh st h p in_n);
 }
 
--- kind 10
+-- kind LoadDirectory
 pub survey_dir : (sh : Layout) (st : S.State) (p : ℕ) (x : ℕ) (calm : Bool) (c : ℕ) (t : ℕ) (cnt : Count) (told : ℕ) → p < sh.passes → (st.stands p).section ≡ Inside x calm → (st.stands p).phase ≡ phase.Survey (walk.Directory c t cnt) → Shut sh st → Nothing sh st
     → CopiesAgree sh (did sh st p Go (Inside x calm) (phase.Survey (walk.Directory c t cnt)) told (Load (place.Directory c t)))
 survey_dir sh st p x calm c t cnt told in_n at_sec at_call h _ = record {
@@ -124,7 +124,7 @@ survey_dir sh st p x calm c t cnt told in_n at_sec at_call h _ = record {
   j_back = λ i c' a' e' s' n' li is inc. grind (arith, nat_tests, (copies h).j_back i c' a' e' s' n' li, (calls h).calls p in_n, sections sh st h p in_n);
 }
 
--- kind 24
+-- kind LoadBack
 pub survey_back : (sh : Layout) (st : S.State) (p : ℕ) (x : ℕ) (calm : Bool) (c : ℕ) (t : ℕ) (cnt : Count) (told : ℕ) → p < sh.passes → (st.stands p).section ≡ Inside x calm → (st.stands p).phase ≡ phase.Survey (walk.Back c t cnt) → Shut sh st → Nothing sh st
     → CopiesAgree sh (did sh st p Go (Inside x calm) (phase.Survey (walk.Back c t cnt)) told (Load (place.Back c t)))
 survey_back sh st p x calm c t cnt told in_n at_sec at_call h _ = record {
@@ -137,7 +137,7 @@ survey_back sh st p x calm c t cnt told in_n at_sec at_call h _ = record {
   j_back = λ i c' a' e' s' n' li is inc. grind (arith, nat_tests, (copies h).j_back i c' a' e' s' n' li, (calls h).calls p in_n, sections sh st h p in_n);
 }
 
--- kind 13
+-- kind LoadEntry
 pub survey_entry : (sh : Layout) (st : S.State) (p : ℕ) (x : ℕ) (calm : Bool) (c : ℕ) (t : ℕ) (cnt : Count) (c2 : ℕ) (a : ℕ) (e : ℕ) (told : ℕ) → p < sh.passes → (st.stands p).section ≡ Inside x calm → (st.stands p).phase ≡ phase.Survey (walk.Entry c t cnt (object a e c2)) → Shut sh st → Nothing sh st
     → CopiesAgree sh (did sh st p Go (Inside x calm) (phase.Survey (walk.Entry c t cnt (object a e c2))) told (Load (place.Entry c2 e)))
 survey_entry sh st p x calm c t cnt c2 a e told in_n at_sec at_call h _ = record {

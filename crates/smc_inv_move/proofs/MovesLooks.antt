@@ -24,7 +24,7 @@ use Rattle.smc_agreement.specs.Agreement.{MovesAgree}
 use Rattle.smc_agreement.proofs.Whole.{Shut, calls, moves, did, sections, calms}
 use Rattle.smc_agreement.proofs.CrossLaws.{by_eq, load_copies}
 
--- kind 25
+-- kind LookUp
 pub starts_look : (sh : Layout) (st : S.State) (p : ℕ) (x : ℕ) (calm : Bool) (c : ℕ) (a : ℕ) (e : ℕ) (told : ℕ) → p < sh.passes → (st.stands p).section ≡ Inside x calm → (st.stands p).phase ≡ phase.Idle → has_place sh (place.Entry c e) ≡ true → Shut sh st → Nothing sh st
     → MovesAgree sh (did sh st p (Start (call.Look (object a e c))) (Inside x calm) phase.Idle told (Load (place.Entry c e)))
 starts_look sh st p x calm c a e told in_n at_sec at_call pre1 h _ = record {
@@ -44,7 +44,7 @@ starts_look sh st p x calm c a e told in_n at_sec at_call pre1 h _ = record {
   begin_copy = λ i j c' s' a' e' t' n' li lj sr cp. grind (arith, nat_tests, (moves h).begin_copy i j c' s' a' e' t' n' li lj, (calls h).calls p in_n, sections sh st h p in_n, (moves h).locked_owner i c' a' e' t' li, (calls h).calls i li);
 }
 
--- kind 8
+-- kind LoadSection
 pub look_out : (sh : Layout) (st : S.State) (p : ℕ) (x : ℕ) (calm : Bool) (c : ℕ) (a : ℕ) (e : ℕ) (told : ℕ) → p < sh.passes → (st.stands p).section ≡ Inside x calm → (st.stands p).phase ≡ phase.Idle → has_place sh (place.Entry c e) ≡ false → Shut sh st → Nothing sh st
     → MovesAgree sh (did sh st p (Start (call.Look (object a e c))) (Inside x calm) phase.Idle told (Load (place.Section p)))
 look_out sh st p x calm c a e told in_n at_sec at_call pre1 h _ = record {
@@ -64,7 +64,7 @@ look_out sh st p x calm c a e told in_n at_sec at_call pre1 h _ = record {
   begin_copy = λ i j c' s' a' e' t' n' li lj sr cp. grind (arith, nat_tests, (moves h).begin_copy i j c' s' a' e' t' n' li lj, (calls h).calls p in_n, sections sh st h p in_n);
 }
 
--- kind 25
+-- kind LookUp
 pub look_load : (sh : Layout) (st : S.State) (p : ℕ) (x : ℕ) (calm : Bool) (who : Seeker) (c : ℕ) (a : ℕ) (e : ℕ) (told : ℕ) → p < sh.passes → (st.stands p).section ≡ Inside x calm → (st.stands p).phase ≡ phase.Look (look.Load who (object a e c)) → Shut sh st → Nothing sh st
     → MovesAgree sh (did sh st p Go (Inside x calm) (phase.Look (look.Load who (object a e c))) told (Load (place.Entry c e)))
 look_load sh st p x calm who c a e told in_n at_sec at_call h _ = record {
@@ -84,7 +84,7 @@ look_load sh st p x calm who c a e told in_n at_sec at_call h _ = record {
   begin_copy = λ i j c' s' a' e' t' n' li lj sr cp. by_eq j p (λ y. let z = subst (λ (l : Stand). copying_of l.phase ≡ Some (record { number = object a' e' c'; source = t'; next = n' })) (put_stand-same st.stands p j _ y) cp in let (u, v, u2, n, k) = load_copies sh who calm a e c (state_in st.memory c e) a' e' c' t' n' z in grind (arith, nat_tests, (moves h).locked_owner i c a e t' li, (calls h).calls i li)) (λ n. grind (arith, nat_tests, (moves h).begin_copy i j c' s' a' e' t' n' li lj));
 }
 
--- kind 30
+-- kind Unfreeze
 pub abandon : (sh : Layout) (st : S.State) (p : ℕ) (x : ℕ) (calm : Bool) (who : Seeker) (c : ℕ) (a : ℕ) (e : ℕ) (q : ℕ) (told : ℕ) → p < sh.passes → (st.stands p).section ≡ Inside x calm → (st.stands p).phase ≡ phase.Look (look.Abandon who (object a e c) q) → Shut sh st → Nothing sh st
     → MovesAgree sh (did sh st p Go (Inside x calm) (phase.Look (look.Abandon who (object a e c) q)) told (Exchange (place.Entry c e) (word.Entry (state.Frozen a q)) (word.Entry (state.Present a q))))
 abandon sh st p x calm who c a e q told in_n at_sec at_call h _ = record {

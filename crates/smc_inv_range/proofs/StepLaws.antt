@@ -39,6 +39,7 @@ use Rattle.smc_core.specs.declared.call.Call.{Call}
 use Rattle.smc_core.specs.declared.call.Call.TheVariants as call
 use Rattle.smc_core.specs.declared.call.Choice.{Choice}
 use Rattle.smc_core.specs.declared.call.Choice.TheVariants.{Start, Go}
+use Rattle.smc_core.specs.declared.kind.Kind.TheVariants as kind
 use Rattle.smc_core.specs.declared.local.Owned.{Owned}
 use Rattle.smc_core.specs.declared.local.Stand.{Stand}
 use Rattle.smc_core.specs.declared.op.Offer.{Offer}
@@ -190,7 +191,7 @@ module _ (shape : Layout) (valid : IsShape shape) (pass : ℕ) (within : pass < 
   look_started-in : (section : Section) (number : Number) → InSection section → Owes section phase.Idle (Start (call.Look number)) (look_start shape pass number)
   look_started-in section number s =
       either (Owes section phase.Idle (Start (call.Look number))) (has_place shape (place.Entry number.coll number.entry))
-      (look_offer (look.Load seeker.Caller number)) (step 8 (Load (place.Section pass)))
+      (look_offer (look.Load seeker.Caller number)) (step kind.LoadSection (Load (place.Section pass)))
       (λ t. let e : number.entry < entries_of shape number.coll = ltb-true number.entry (entries_of shape number.coll) t in record {
         op = e;
         after = λ told w shown. (rw t (looking-in shape stand.words (is_calm section) (look.Load seeker.Caller number) w (tt, e) shown), s, f.round);
@@ -205,7 +206,7 @@ module _ (shape : Layout) (valid : IsShape shape) (pass : ℕ) (within : pass < 
       → Owes section phase.Idle (Start (call.Next number)) (next_offer shape pass begun)
   next_started-in section number begun s is =
       either (Owes section phase.Idle (Start (call.Next number))) (is_over shape begun)
-      (step 8 (Load (place.Section pass))) (step 10 (Load (place.Directory begun.coll begun.place)))
+      (step kind.LoadSection (Load (place.Section pass))) (step kind.LoadDirectory (Load (place.Directory begun.coll begun.place)))
       (λ t. record {
         op = within;
         after = λ told w shown. (next-in w (rw t (tt, tt)), s, f.round);
@@ -227,7 +228,7 @@ module _ (shape : Layout) (valid : IsShape shape) (pass : ℕ) (within : pass < 
       → Owes section phase.Idle (Start call.Finish) (finish_start pass (epoch_of section) owned)
   finish_started-in section owned s is lt =
       either (Owes section phase.Idle (Start call.Finish)) (is_early (epoch_of section) owned.bound)
-      (step 8 (Load (place.Section pass))) (finish_offer (epoch_of section) (finish.Directory (first_target owned.coll)))
+      (step kind.LoadSection (Load (place.Section pass))) (finish_offer (epoch_of section) (finish.Directory (first_target owned.coll)))
       (λ t. record {
         op = within;
         after = λ told w shown. (round-in w (rw t (tt, tt)), s, f.round);

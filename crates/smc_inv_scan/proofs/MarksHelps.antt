@@ -44,7 +44,7 @@ use Rattle.smc_inv_scan.specs.Scans.{seeker_at, seeker_owner}
 use Rattle.smc_inv_scan.proofs.StepViews.{is_decided}
 use Rattle.smc_inv_scan.proofs.MarkSteps.{visit_marks}
 
--- kind 32
+-- kind LoadForward
 pub l_fwd : (ms : ℕ → Marks) (sh : Layout) (st : S.State) (p : ℕ) (x : ℕ) (calm : Bool) (who : Seeker) (c : ℕ) (a : ℕ) (e : ℕ) (q : ℕ) (told : ℕ) → p < sh.passes → (st.stands p).section ≡ Inside x calm → (st.stands p).phase ≡ phase.Look (look.Help who (object a e c) q copy.Target) → Shut sh st → ScansAgree sh st → MarksAgree sh st ms → IsHere st
     → KeepsMarks ms sh st p Go (Inside x calm) (phase.Look (look.Help who (object a e c) q copy.Target)) told (Load (place.Forward c q))
 l_fwd ms sh st p x calm who c a e q told in_n at_sec at_call h r mk hr = unmarked sh (did sh st p Go (Inside x calm) (phase.Look (look.Help who (object a e c) q copy.Target)) told (Load (place.Forward c q))) ms p st.world (change sh p (st.stands p) (Inside x calm) (phase.Look (look.Help who (object a e c) q copy.Target)) Go told (seen (Load (place.Forward c q)) st.memory)).event (grind (arith, nat_tests)) (record {
@@ -55,7 +55,7 @@ l_fwd ms sh st p x calm who c a e q told in_n at_sec at_call h r mk hr = unmarke
   m_once = λ i k' c' a' e' s' b' li is vs pr. by_eq i p (λ eq. let now = subst (λ (l : Stand). scan_of l.scans k' ≡ Some b') (put_stand-same st.stands p i _ eq) is in let (old, was, same, at) = looked-was who (look_finding sh calm (look.Help who (object a e c) q copy.Target) (st.memory (place.Forward c q))) (st.stands p).scans k' b' now in let before = mk.m_once p k' c' a' e' s' old in_n was (subst (λ (j : ℕ). (ms j).visited k' (object a' e' c') ≡ true) eq vs) pr in elim at [ inl kept ↦ subst (λ (z : ℕ). s' < z) (sym kept) before | inr left ↦ (let (c0, t0, who0, step0, decided) = left in absurd (cc)) ]) (λ ne. grind (arith, nat_tests, mk.m_once i k' c' a' e' s' b' li));
 })
 
--- kind 19
+-- kind LoadField
 pub l_read : (ms : ℕ → Marks) (sh : Layout) (st : S.State) (p : ℕ) (x : ℕ) (calm : Bool) (who : Seeker) (c : ℕ) (a : ℕ) (e : ℕ) (q : ℕ) (t : ℕ) (f : ℕ) (told : ℕ) → p < sh.passes → (st.stands p).section ≡ Inside x calm → (st.stands p).phase ≡ phase.Look (look.Help who (object a e c) q (copy.Load t f)) → Shut sh st → ScansAgree sh st → MarksAgree sh st ms → IsHere st
     → KeepsMarks ms sh st p Go (Inside x calm) (phase.Look (look.Help who (object a e c) q (copy.Load t f))) told (Load (place.Field c q f))
 l_read ms sh st p x calm who c a e q t f told in_n at_sec at_call h r mk hr = unmarked sh (did sh st p Go (Inside x calm) (phase.Look (look.Help who (object a e c) q (copy.Load t f))) told (Load (place.Field c q f))) ms p st.world (change sh p (st.stands p) (Inside x calm) (phase.Look (look.Help who (object a e c) q (copy.Load t f))) Go told (seen (Load (place.Field c q f)) st.memory)).event (grind (arith, nat_tests)) (record {
@@ -66,7 +66,7 @@ l_read ms sh st p x calm who c a e q t f told in_n at_sec at_call h r mk hr = un
   m_once = λ i k' c' a' e' s' b' li is vs pr. by_eq i p (λ eq. let now = subst (λ (l : Stand). scan_of l.scans k' ≡ Some b') (put_stand-same st.stands p i _ eq) is in let (old, was, same, at) = looked-was who (look_finding sh calm (look.Help who (object a e c) q (copy.Load t f)) (st.memory (place.Field c q f))) (st.stands p).scans k' b' now in let before = mk.m_once p k' c' a' e' s' old in_n was (subst (λ (j : ℕ). (ms j).visited k' (object a' e' c') ≡ true) eq vs) pr in elim at [ inl kept ↦ subst (λ (z : ℕ). s' < z) (sym kept) before | inr left ↦ (let (c0, t0, who0, step0, decided) = left in absurd (cc)) ]) (λ ne. grind (arith, nat_tests, mk.m_once i k' c' a' e' s' b' li));
 })
 
--- kind 33
+-- kind CopyField
 pub l_put : (ms : ℕ → Marks) (sh : Layout) (st : S.State) (p : ℕ) (x : ℕ) (calm : Bool) (who : Seeker) (c : ℕ) (a : ℕ) (e : ℕ) (q : ℕ) (t : ℕ) (f : ℕ) (w : ℕ) (told : ℕ) → p < sh.passes → (st.stands p).section ≡ Inside x calm → (st.stands p).phase ≡ phase.Look (look.Help who (object a e c) q (copy.Put t f w)) → Shut sh st → ScansAgree sh st → MarksAgree sh st ms → IsHere st
     → KeepsMarks ms sh st p Go (Inside x calm) (phase.Look (look.Help who (object a e c) q (copy.Put t f w))) told (Exchange (place.Field c t f) (word.Plain BLANK) (word.Plain w))
 l_put ms sh st p x calm who c a e q t f w told in_n at_sec at_call h r mk hr = unmarked sh (did sh st p Go (Inside x calm) (phase.Look (look.Help who (object a e c) q (copy.Put t f w))) told (Exchange (place.Field c t f) (word.Plain BLANK) (word.Plain w))) ms p st.world (change sh p (st.stands p) (Inside x calm) (phase.Look (look.Help who (object a e c) q (copy.Put t f w))) Go told (seen (Exchange (place.Field c t f) (word.Plain BLANK) (word.Plain w)) st.memory)).event (grind (arith, nat_tests)) (record {
@@ -77,7 +77,7 @@ l_put ms sh st p x calm who c a e q t f w told in_n at_sec at_call h r mk hr = u
   m_once = λ i k' c' a' e' s' b' li is vs pr. by_eq i p (λ eq. let now = subst (λ (l : Stand). scan_of l.scans k' ≡ Some b') (put_stand-same st.stands p i _ eq) is in let (old, was, same, at) = looked-was who (look_finding sh calm (look.Help who (object a e c) q (copy.Put t f w)) (st.memory (place.Field c t f))) (st.stands p).scans k' b' now in let before = mk.m_once p k' c' a' e' s' old in_n was (subst (λ (j : ℕ). (ms j).visited k' (object a' e' c') ≡ true) eq vs) pr in elim at [ inl kept ↦ subst (λ (z : ℕ). s' < z) (sym kept) before | inr left ↦ (let (c0, t0, who0, step0, decided) = left in absurd (cc)) ]) (λ ne. grind (arith, nat_tests, mk.m_once i k' c' a' e' s' b' li));
 })
 
--- kind 34
+-- kind Swing
 pub l_swing : (ms : ℕ → Marks) (sh : Layout) (st : S.State) (p : ℕ) (x : ℕ) (calm : Bool) (who : Seeker) (c : ℕ) (a : ℕ) (e : ℕ) (q : ℕ) (t : ℕ) (told : ℕ) → p < sh.passes → (st.stands p).section ≡ Inside x calm → (st.stands p).phase ≡ phase.Look (look.Help who (object a e c) q (copy.Swing t)) → Shut sh st → ScansAgree sh st → MarksAgree sh st ms → IsHere st
     → KeepsMarks ms sh st p Go (Inside x calm) (phase.Look (look.Help who (object a e c) q (copy.Swing t))) told (Exchange (place.Entry c e) (word.Entry (state.Locked a q)) (word.Entry (state.Present a t)))
 l_swing ms sh st p x calm who c a e q t told in_n at_sec at_call h r mk hr = record {

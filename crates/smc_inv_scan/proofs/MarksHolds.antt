@@ -26,7 +26,7 @@ use Rattle.smc_inv_scan.specs.Marks.{Marks, MarksAgree, IsHere}
 use Rattle.smc_inv_scan.proofs.MarkViews.{unmarked}
 use Rattle.smc_inv_scan.proofs.MarkSteps.{KeepsMarks}
 
--- kind 19
+-- kind LoadField
 pub read : (ms : ℕ → Marks) (sh : Layout) (st : S.State) (p : ℕ) (x : ℕ) (calm : Bool) (c : ℕ) (a : ℕ) (e : ℕ) (q : ℕ) (f : ℕ) (told : ℕ) → p < sh.passes → (st.stands p).section ≡ Inside x calm → (st.stands p).phase ≡ phase.Idle → held_slot (st.stands p).held (object a e c) ≡ Some q → nat_lt f (width_of sh c) ≡ true → Shut sh st → ScansAgree sh st → MarksAgree sh st ms → IsHere st
     → KeepsMarks ms sh st p (Start (call.Read (object a e c) f)) (Inside x calm) phase.Idle told (Load (place.Field c q f))
 read ms sh st p x calm c a e q f told in_n at_sec at_call pre1 pre2 h r mk hr = unmarked sh (did sh st p (Start (call.Read (object a e c) f)) (Inside x calm) phase.Idle told (Load (place.Field c q f))) ms p st.world (change sh p (st.stands p) (Inside x calm) phase.Idle (Start (call.Read (object a e c) f)) told (seen (Load (place.Field c q f)) st.memory)).event (grind (arith, nat_tests)) (record {
@@ -37,7 +37,7 @@ read ms sh st p x calm c a e q f told in_n at_sec at_call pre1 pre2 h r mk hr = 
   m_once = λ i k' c' a' e' s' b' li is vs pr. grind (arith, nat_tests, mk.m_once i k' c' a' e' s' b' li);
 })
 
--- kind 20
+-- kind WriteField
 pub write : (ms : ℕ → Marks) (sh : Layout) (st : S.State) (p : ℕ) (x : ℕ) (calm : Bool) (c : ℕ) (a : ℕ) (e : ℕ) (q : ℕ) (f : ℕ) (w : ℕ) (told : ℕ) → p < sh.passes → (st.stands p).section ≡ Inside x calm → (st.stands p).phase ≡ phase.Idle → held_slot (st.stands p).held (object a e c) ≡ Some q → (nat_lt f (width_of sh c) && is_value w) ≡ true → Shut sh st → ScansAgree sh st → MarksAgree sh st ms → IsHere st
     → KeepsMarks ms sh st p (Start (call.Write (object a e c) f w)) (Inside x calm) phase.Idle told (Store (place.Field c q f) (word.Plain w))
 write ms sh st p x calm c a e q f w told in_n at_sec at_call pre1 pre2 h r mk hr = unmarked sh (did sh st p (Start (call.Write (object a e c) f w)) (Inside x calm) phase.Idle told (Store (place.Field c q f) (word.Plain w))) ms p st.world (change sh p (st.stands p) (Inside x calm) phase.Idle (Start (call.Write (object a e c) f w)) told (seen (Store (place.Field c q f) (word.Plain w)) st.memory)).event (grind (arith, nat_tests)) (record {
@@ -48,7 +48,7 @@ write ms sh st p x calm c a e q f w told in_n at_sec at_call pre1 pre2 h r mk hr
   m_once = λ i k' c' a' e' s' b' li is vs pr. grind (arith, nat_tests, mk.m_once i k' c' a' e' s' b' li);
 })
 
--- kind 21
+-- kind MarkGone
 pub starts_remove : (ms : ℕ → Marks) (sh : Layout) (st : S.State) (p : ℕ) (x : ℕ) (calm : Bool) (c : ℕ) (a : ℕ) (e : ℕ) (q : ℕ) (told : ℕ) → p < sh.passes → (st.stands p).section ≡ Inside x calm → (st.stands p).phase ≡ phase.Idle → held_slot (st.stands p).held (object a e c) ≡ Some q → Shut sh st → ScansAgree sh st → MarksAgree sh st ms → IsHere st
     → KeepsMarks ms sh st p (Start (call.Remove (object a e c))) (Inside x calm) phase.Idle told (MarkGone c e)
 starts_remove ms sh st p x calm c a e q told in_n at_sec at_call pre1 h r mk hr = unmarked sh (did sh st p (Start (call.Remove (object a e c))) (Inside x calm) phase.Idle told (MarkGone c e)) ms p st.world (change sh p (st.stands p) (Inside x calm) phase.Idle (Start (call.Remove (object a e c))) told (seen (MarkGone c e) st.memory)).event (grind (arith, nat_tests)) (record {
@@ -59,7 +59,7 @@ starts_remove ms sh st p x calm c a e q told in_n at_sec at_call pre1 h r mk hr 
   m_once = λ i k' c' a' e' s' b' li is vs pr. grind (arith, nat_tests, mk.m_once i k' c' a' e' s' b' li, (objects h).held p c a e q in_n pre1);
 })
 
--- kind 22
+-- kind LeaveSlot
 pub leave_slot : (ms : ℕ → Marks) (sh : Layout) (st : S.State) (p : ℕ) (x : ℕ) (calm : Bool) (c : ℕ) (a : ℕ) (e : ℕ) (q : ℕ) (told : ℕ) → p < sh.passes → (st.stands p).section ≡ Inside x calm → (st.stands p).phase ≡ phase.Remove (remove.LeaveSlot q (object a e c)) → Shut sh st → ScansAgree sh st → MarksAgree sh st ms → IsHere st
     → KeepsMarks ms sh st p Go (Inside x calm) (phase.Remove (remove.LeaveSlot q (object a e c))) told (Store (place.Directory c q) (word.Directory (dir.Limbo (x + 1))))
 leave_slot ms sh st p x calm c a e q told in_n at_sec at_call h r mk hr = unmarked sh (did sh st p Go (Inside x calm) (phase.Remove (remove.LeaveSlot q (object a e c))) told (Store (place.Directory c q) (word.Directory (dir.Limbo (x + 1))))) ms p st.world (change sh p (st.stands p) (Inside x calm) (phase.Remove (remove.LeaveSlot q (object a e c))) Go told (seen (Store (place.Directory c q) (word.Directory (dir.Limbo (x + 1)))) st.memory)).event (grind (arith, nat_tests)) (record {
@@ -70,7 +70,7 @@ leave_slot ms sh st p x calm c a e q told in_n at_sec at_call h r mk hr = unmark
   m_once = λ i k' c' a' e' s' b' li is vs pr. grind (arith, nat_tests, mk.m_once i k' c' a' e' s' b' li);
 })
 
--- kind 23
+-- kind FreeEntry
 pub free_entry : (ms : ℕ → Marks) (sh : Layout) (st : S.State) (p : ℕ) (x : ℕ) (calm : Bool) (c : ℕ) (a : ℕ) (e : ℕ) (told : ℕ) → p < sh.passes → (st.stands p).section ≡ Inside x calm → (st.stands p).phase ≡ phase.Remove (remove.FreeEntry (object a e c)) → Shut sh st → ScansAgree sh st → MarksAgree sh st ms → IsHere st
     → KeepsMarks ms sh st p Go (Inside x calm) (phase.Remove (remove.FreeEntry (object a e c))) told (Store (place.Entry c e) (word.Entry (state.Free a (x + 1))))
 free_entry ms sh st p x calm c a e told in_n at_sec at_call h r mk hr = unmarked sh (did sh st p Go (Inside x calm) (phase.Remove (remove.FreeEntry (object a e c))) told (Store (place.Entry c e) (word.Entry (state.Free a (x + 1))))) ms p st.world (change sh p (st.stands p) (Inside x calm) (phase.Remove (remove.FreeEntry (object a e c))) Go told (seen (Store (place.Entry c e) (word.Entry (state.Free a (x + 1)))) st.memory)).event (grind (arith, nat_tests)) (record {

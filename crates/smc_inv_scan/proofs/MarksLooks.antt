@@ -44,7 +44,7 @@ use Rattle.smc_inv_scan.specs.Scans.{seeker_at, seeker_owner}
 use Rattle.smc_inv_scan.proofs.StepViews.{is_decided}
 use Rattle.smc_inv_scan.proofs.MarkSteps.{visit_marks}
 
--- kind 25
+-- kind LookUp
 pub starts_look : (ms : ℕ → Marks) (sh : Layout) (st : S.State) (p : ℕ) (x : ℕ) (calm : Bool) (c : ℕ) (a : ℕ) (e : ℕ) (told : ℕ) → p < sh.passes → (st.stands p).section ≡ Inside x calm → (st.stands p).phase ≡ phase.Idle → has_place sh (place.Entry c e) ≡ true → Shut sh st → ScansAgree sh st → MarksAgree sh st ms → IsHere st
     → KeepsMarks ms sh st p (Start (call.Look (object a e c))) (Inside x calm) phase.Idle told (Load (place.Entry c e))
 starts_look ms sh st p x calm c a e told in_n at_sec at_call pre1 h r mk hr = unmarked sh (did sh st p (Start (call.Look (object a e c))) (Inside x calm) phase.Idle told (Load (place.Entry c e))) ms p st.world (change sh p (st.stands p) (Inside x calm) phase.Idle (Start (call.Look (object a e c))) told (seen (Load (place.Entry c e)) st.memory)).event (grind (arith, nat_tests)) (record {
@@ -55,7 +55,7 @@ starts_look ms sh st p x calm c a e told in_n at_sec at_call pre1 h r mk hr = un
   m_once = λ i k' c' a' e' s' b' li is vs pr. grind (arith, nat_tests, mk.m_once i k' c' a' e' s' b' li);
 })
 
--- kind 8
+-- kind LoadSection
 pub look_out : (ms : ℕ → Marks) (sh : Layout) (st : S.State) (p : ℕ) (x : ℕ) (calm : Bool) (c : ℕ) (a : ℕ) (e : ℕ) (told : ℕ) → p < sh.passes → (st.stands p).section ≡ Inside x calm → (st.stands p).phase ≡ phase.Idle → has_place sh (place.Entry c e) ≡ false → Shut sh st → ScansAgree sh st → MarksAgree sh st ms → IsHere st
     → KeepsMarks ms sh st p (Start (call.Look (object a e c))) (Inside x calm) phase.Idle told (Load (place.Section p))
 look_out ms sh st p x calm c a e told in_n at_sec at_call pre1 h r mk hr = unmarked sh (did sh st p (Start (call.Look (object a e c))) (Inside x calm) phase.Idle told (Load (place.Section p))) ms p st.world (change sh p (st.stands p) (Inside x calm) phase.Idle (Start (call.Look (object a e c))) told (seen (Load (place.Section p)) st.memory)).event (grind (arith, nat_tests)) (record {
@@ -66,7 +66,7 @@ look_out ms sh st p x calm c a e told in_n at_sec at_call pre1 h r mk hr = unmar
   m_once = λ i k' c' a' e' s' b' li is vs pr. grind (arith, nat_tests, mk.m_once i k' c' a' e' s' b' li);
 })
 
--- kind 25
+-- kind LookUp
 pub look_load : (ms : ℕ → Marks) (sh : Layout) (st : S.State) (p : ℕ) (x : ℕ) (calm : Bool) (who : Seeker) (c : ℕ) (a : ℕ) (e : ℕ) (told : ℕ) → p < sh.passes → (st.stands p).section ≡ Inside x calm → (st.stands p).phase ≡ phase.Look (look.Load who (object a e c)) → Shut sh st → ScansAgree sh st → MarksAgree sh st ms → IsHere st
     → KeepsMarks ms sh st p Go (Inside x calm) (phase.Look (look.Load who (object a e c))) told (Load (place.Entry c e))
 look_load ms sh st p x calm who c a e told in_n at_sec at_call h r mk hr = record {
@@ -77,7 +77,7 @@ look_load ms sh st p x calm who c a e told in_n at_sec at_call h r mk hr = recor
   m_once = λ i k' c' a' e' s' b' li is vs pr. by_eq i p (λ eq. let now = subst (λ (l : Stand). scan_of l.scans k' ≡ Some b') (put_stand-same st.stands p i _ eq) is in let (old, was, same, at) = looked-was who (look_finding sh calm (look.Load who (object a e c)) (st.memory (place.Entry c e))) (st.stands p).scans k' b' now in let vs0 = looked-visited sh who (object a e c) (look_finding sh calm (look.Load who (object a e c)) (st.memory (place.Entry c e))) st.world (ms p) k' (object a' e' c') (subst (λ (x : Marks). x.visited k' (object a' e' c') ≡ true) (put-mine ms p i (marks_told st.world (ms p) (look_change sh who (object a e c) (look_finding sh calm (look.Load who (object a e c)) (st.memory (place.Entry c e)))).event) eq) vs) in elim vs0 [ inl before ↦ (let early : s' < old.place = mk.m_once p k' c' a' e' s' old in_n was before pr in elim at [ inl kept ↦ subst (λ (y : ℕ). s' < y) (sym kept) early | inr left ↦ (let (c0, t0, who0, step0, decided) = left in let place_so = look_place sh st h r p k' c0 t0 old (look.Load who (object a e c)) in_n at_call who0 was in omega (arith, early, step0, place_so.1)) ]) | inr fresh_one ↦ (let (c1, t1, who1, stays, same_n) = fresh_one in let spot = visited_place who (look_finding sh calm (look.Load who (object a e c)) (st.memory (place.Entry c e))) (st.stands p).scans k' c1 t1 b' who1 stays (r.s_place p k' c1 t1 in_n (subst (λ (next : Phase). scan_at next ≡ Some (k', (c1, t1))) (sym at_call) (ap seeker_at who1))) now in let pr0 : present_at (state_in st.memory c e) ≡ Some (a, s') = grind (arith, nat_tests, pr, same_n) in let decided : is_decided (look_finding sh calm (look.Load who (object a e c)) (st.memory (place.Entry c e))) ≡ true = subst (λ (y : Finding). is_decided y ≡ true) (sym stays) refl in let stays' : (look_finding sh calm (look.Load who (object a e c)) (st.memory (place.Entry c e))) ≡ Stays s' = found_at calm a s' (state_in st.memory c e) pr0 decided in grind (arith, stays, stays', spot)) ]) (λ ne. grind (arith, nat_tests, mk.m_once i k' c' a' e' s' b' li, put-other ms p i (marks_told st.world (ms p) (look_change sh who (object a e c) (look_finding sh calm (look.Load who (object a e c)) (st.memory (place.Entry c e)))).event) ne));
 }
 
--- kind 30
+-- kind Unfreeze
 pub abandon : (ms : ℕ → Marks) (sh : Layout) (st : S.State) (p : ℕ) (x : ℕ) (calm : Bool) (who : Seeker) (c : ℕ) (a : ℕ) (e : ℕ) (q : ℕ) (told : ℕ) → p < sh.passes → (st.stands p).section ≡ Inside x calm → (st.stands p).phase ≡ phase.Look (look.Abandon who (object a e c) q) → Shut sh st → ScansAgree sh st → MarksAgree sh st ms → IsHere st
     → KeepsMarks ms sh st p Go (Inside x calm) (phase.Look (look.Abandon who (object a e c) q)) told (Exchange (place.Entry c e) (word.Entry (state.Frozen a q)) (word.Entry (state.Present a q)))
 abandon ms sh st p x calm who c a e q told in_n at_sec at_call h r mk hr = record {

@@ -38,7 +38,7 @@ use Rattle.smc_inv_scan.proofs.MarkSteps.{KeepsMarks, unscanned, unnamed}
 use Rattle.std.specs.Prelude.{if◌then◌else◌}
 use Rattle.smc_model.specs.declared.event.Event.TheVariants as event
 
--- kind 8
+-- kind LoadSection
 pub starts_scan : (ms : ℕ → Marks) (sh : Layout) (st : S.State) (p : ℕ) (x : ℕ) (calm : Bool) (c : ℕ) (told : ℕ) → p < sh.passes → (st.stands p).section ≡ Inside x calm → (st.stands p).phase ≡ phase.Idle → Shut sh st → ScansAgree sh st → MarksAgree sh st ms → IsHere st
     → KeepsMarks ms sh st p (Start (call.Scan c)) (Inside x calm) phase.Idle told (Load (place.Section p))
 starts_scan ms sh st p x calm c told in_n at_sec at_call h r mk hr = record {
@@ -49,7 +49,7 @@ starts_scan ms sh st p x calm c told in_n at_sec at_call h r mk hr = record {
   m_once = λ i k' c' a' e' s' b' li is vs pr. by_eq i p (λ eq. let now = subst (λ (l : Stand). scan_of l.scans k' ≡ Some b') (put_stand-same st.stands p i _ eq) is in let vs0 : (if k' == (scan_number p (st.stands p).begun) then false else (ms p).visited k' (object a' e' c')) ≡ true = subst (λ (x : Marks). x.visited k' (object a' e' c') ≡ true) (put-mine ms p i (marks_told st.world (ms p) (Some (event.Begin (scan_number p (st.stands p).begun) c))) eq) vs in elim (begun-was (st.stands p).scans (new_scan (scan_number p (st.stands p).begun) c) k' b' now) [ inl was ↦ (let ns : (k' == (scan_number p (st.stands p).begun)) ≡ false = grind (arith, nat_tests, r.s_fresh p k' b' in_n was) in mk.m_once p k' c' a' e' s' b' in_n was (subst (λ (y : Bool). (if y then false else (ms p).visited k' (object a' e' c')) ≡ true) ns vs0) pr) | inr new ↦ (let named = scan_of-number ((st.stands p).scans ++ (new_scan (scan_number p (st.stands p).begun) c) ∷ []) k' b' now in let ns : (k' == (scan_number p (st.stands p).begun)) ≡ true = grind (arith, nat_tests, named, new) in let not_so : false ≡ true = subst (λ (y : Bool). (if y then false else (ms p).visited k' (object a' e' c')) ≡ true) ns vs0 in absurd (cc)) ]) (λ ne. grind (arith, nat_tests, mk.m_once i k' c' a' e' s' b' li, put-other ms p i (marks_told st.world (ms p) (Some (event.Begin (scan_number p (st.stands p).begun) c))) ne));
 }
 
--- kind 8
+-- kind LoadSection
 pub next_over : (ms : ℕ → Marks) (sh : Layout) (st : S.State) (p : ℕ) (x : ℕ) (calm : Bool) (k : ℕ) (b1 : Scan) (told : ℕ) → p < sh.passes → (st.stands p).section ≡ Inside x calm → (st.stands p).phase ≡ phase.Idle → scan_of (st.stands p).scans k ≡ Some b1 → is_over sh b1 ≡ true → Shut sh st → ScansAgree sh st → MarksAgree sh st ms → IsHere st
     → KeepsMarks ms sh st p (Start (call.Next k)) (Inside x calm) phase.Idle told (Load (place.Section p))
 next_over ms sh st p x calm k b1 told in_n at_sec at_call pre1 pre2 h r mk hr = unmarked sh (did sh st p (Start (call.Next k)) (Inside x calm) phase.Idle told (Load (place.Section p))) ms p st.world (change sh p (st.stands p) (Inside x calm) phase.Idle (Start (call.Next k)) told (seen (Load (place.Section p)) st.memory)).event (grind (arith, nat_tests)) (record {
@@ -60,7 +60,7 @@ next_over ms sh st p x calm k b1 told in_n at_sec at_call pre1 pre2 h r mk hr = 
   m_once = λ i k' c' a' e' s' b' li is vs pr. by_eq i p (λ eq. let now = subst (λ (l : Stand). scan_of l.scans k' ≡ Some b') (put_stand-same st.stands p i _ eq) is in let (old, was, same, kept) = next_over-was sh (st.stands p).scans k b1 (st.memory (place.Section p)) k' b' pre1 pre2 now in subst (λ (z : ℕ). s' < z) (sym kept) (mk.m_once p k' c' a' e' s' old in_n was (subst (λ (j : ℕ). (ms j).visited k' (object a' e' c') ≡ true) eq vs) pr)) (λ ne. grind (arith, nat_tests, mk.m_once i k' c' a' e' s' b' li));
 })
 
--- kind 10
+-- kind LoadDirectory
 pub next_slot : (ms : ℕ → Marks) (sh : Layout) (st : S.State) (p : ℕ) (x : ℕ) (calm : Bool) (k : ℕ) (b1 : Scan) (told : ℕ) → p < sh.passes → (st.stands p).section ≡ Inside x calm → (st.stands p).phase ≡ phase.Idle → scan_of (st.stands p).scans k ≡ Some b1 → is_over sh b1 ≡ false → Shut sh st → ScansAgree sh st → MarksAgree sh st ms → IsHere st
     → KeepsMarks ms sh st p (Start (call.Next k)) (Inside x calm) phase.Idle told (Load (place.Directory b1.coll b1.place))
 next_slot ms sh st p x calm k b1 told in_n at_sec at_call pre1 pre2 h r mk hr = unmarked sh (did sh st p (Start (call.Next k)) (Inside x calm) phase.Idle told (Load (place.Directory b1.coll b1.place))) ms p st.world (change sh p (st.stands p) (Inside x calm) phase.Idle (Start (call.Next k)) told (seen (Load (place.Directory b1.coll b1.place)) st.memory)).event (grind (arith, nat_tests)) (record {
@@ -71,7 +71,7 @@ next_slot ms sh st p x calm k b1 told in_n at_sec at_call pre1 pre2 h r mk hr = 
   m_once = λ i k' c' a' e' s' b' li is vs pr. by_eq i p (λ eq. let now = subst (λ (l : Stand). scan_of l.scans k' ≡ Some b') (put_stand-same st.stands p i _ eq) is in let (old, was, same, at) = seen_dir-was (st.stands p).scans k b1.coll b1.place (st.memory (place.Directory b1.coll b1.place)) k' b' (subst (λ (y : List Scan). scan_of y k' ≡ Some b') (next_slot-scans sh (st.stands p).scans k b1 (st.memory (place.Directory b1.coll b1.place)) pre1 pre2) now) in let before = mk.m_once p k' c' a' e' s' old in_n was (subst (λ (j : ℕ). (ms j).visited k' (object a' e' c') ≡ true) eq vs) pr in elim at [ inl kept ↦ subst (λ (z : ℕ). s' < z) (sym kept) before | inr left ↦ (let place_so = subst (IsAt b1.coll b1.place) (sym pre1 ∙ subst (λ (z : ℕ). scan_of (st.stands p).scans z ≡ Some old) left.0 was) (refl, refl) in let step_so = left.1 in omega (arith, before, step_so, place_so.1)) ]) (λ ne. grind (arith, nat_tests, mk.m_once i k' c' a' e' s' b' li));
 })
 
--- kind 10
+-- kind LoadDirectory
 pub scan_dir : (ms : ℕ → Marks) (sh : Layout) (st : S.State) (p : ℕ) (x : ℕ) (calm : Bool) (k : ℕ) (c : ℕ) (t : ℕ) (told : ℕ) → p < sh.passes → (st.stands p).section ≡ Inside x calm → (st.stands p).phase ≡ phase.Scan (scan.Directory k c t) → Shut sh st → ScansAgree sh st → MarksAgree sh st ms → IsHere st
     → KeepsMarks ms sh st p Go (Inside x calm) (phase.Scan (scan.Directory k c t)) told (Load (place.Directory c t))
 scan_dir ms sh st p x calm k c t told in_n at_sec at_call h r mk hr = unmarked sh (did sh st p Go (Inside x calm) (phase.Scan (scan.Directory k c t)) told (Load (place.Directory c t))) ms p st.world (change sh p (st.stands p) (Inside x calm) (phase.Scan (scan.Directory k c t)) Go told (seen (Load (place.Directory c t)) st.memory)).event (grind (arith, nat_tests)) (record {
@@ -82,7 +82,7 @@ scan_dir ms sh st p x calm k c t told in_n at_sec at_call h r mk hr = unmarked s
   m_once = λ i k' c' a' e' s' b' li is vs pr. by_eq i p (λ eq. let now = subst (λ (l : Stand). scan_of l.scans k' ≡ Some b') (put_stand-same st.stands p i _ eq) is in let (old, was, same, at) = seen_dir-was (st.stands p).scans k c t (st.memory (place.Directory c t)) k' b' now in let before = mk.m_once p k' c' a' e' s' old in_n was (subst (λ (j : ℕ). (ms j).visited k' (object a' e' c') ≡ true) eq vs) pr in elim at [ inl kept ↦ subst (λ (z : ℕ). s' < z) (sym kept) before | inr left ↦ (let place_so = call_place sh st h r p k c t old (phase.Scan (scan.Directory k c t)) in_n at_call refl (subst (λ (z : ℕ). scan_of (st.stands p).scans z ≡ Some old) left.0 was) in let step_so = left.1 in omega (arith, before, step_so, place_so.1)) ]) (λ ne. grind (arith, nat_tests, mk.m_once i k' c' a' e' s' b' li));
 })
 
--- kind 24
+-- kind LoadBack
 pub scan_back : (ms : ℕ → Marks) (sh : Layout) (st : S.State) (p : ℕ) (x : ℕ) (calm : Bool) (k : ℕ) (c : ℕ) (t : ℕ) (told : ℕ) → p < sh.passes → (st.stands p).section ≡ Inside x calm → (st.stands p).phase ≡ phase.Scan (scan.Back k c t) → Shut sh st → ScansAgree sh st → MarksAgree sh st ms → IsHere st
     → KeepsMarks ms sh st p Go (Inside x calm) (phase.Scan (scan.Back k c t)) told (Load (place.Back c t))
 scan_back ms sh st p x calm k c t told in_n at_sec at_call h r mk hr = unmarked sh (did sh st p Go (Inside x calm) (phase.Scan (scan.Back k c t)) told (Load (place.Back c t))) ms p st.world (change sh p (st.stands p) (Inside x calm) (phase.Scan (scan.Back k c t)) Go told (seen (Load (place.Back c t)) st.memory)).event (grind (arith, nat_tests)) (record {
@@ -93,7 +93,7 @@ scan_back ms sh st p x calm k c t told in_n at_sec at_call h r mk hr = unmarked 
   m_once = λ i k' c' a' e' s' b' li is vs pr. by_eq i p (λ eq. let now = subst (λ (l : Stand). scan_of l.scans k' ≡ Some b') (put_stand-same st.stands p i _ eq) is in let (old, was, same, at) = seen_back-was (st.stands p).scans k c t (st.memory (place.Back c t)) k' b' now in let before = mk.m_once p k' c' a' e' s' old in_n was (subst (λ (j : ℕ). (ms j).visited k' (object a' e' c') ≡ true) eq vs) pr in elim at [ inl kept ↦ subst (λ (z : ℕ). s' < z) (sym kept) before | inr left ↦ (let place_so = call_place sh st h r p k c t old (phase.Scan (scan.Back k c t)) in_n at_call refl (subst (λ (z : ℕ). scan_of (st.stands p).scans z ≡ Some old) left.0 was) in let step_so = left.1 in omega (arith, before, step_so, place_so.1)) ]) (λ ne. grind (arith, nat_tests, mk.m_once i k' c' a' e' s' b' li));
 })
 
--- kind 8
+-- kind LoadSection
 pub scan_end : (ms : ℕ → Marks) (sh : Layout) (st : S.State) (p : ℕ) (x : ℕ) (calm : Bool) (k : ℕ) (told : ℕ) → p < sh.passes → (st.stands p).section ≡ Inside x calm → (st.stands p).phase ≡ phase.Scan (scan.End k) → Shut sh st → ScansAgree sh st → MarksAgree sh st ms → IsHere st
     → KeepsMarks ms sh st p Go (Inside x calm) (phase.Scan (scan.End k)) told (Load (place.Section p))
 scan_end ms sh st p x calm k told in_n at_sec at_call h r mk hr = unmarked sh (did sh st p Go (Inside x calm) (phase.Scan (scan.End k)) told (Load (place.Section p))) ms p st.world (change sh p (st.stands p) (Inside x calm) (phase.Scan (scan.End k)) Go told (seen (Load (place.Section p)) st.memory)).event (grind (arith, nat_tests)) (record {
@@ -104,7 +104,7 @@ scan_end ms sh st p x calm k told in_n at_sec at_call h r mk hr = unmarked sh (d
   m_once = λ i k' c' a' e' s' b' li is vs pr. by_eq i p (λ eq. let now = subst (λ (l : Stand). scan_of l.scans k' ≡ Some b') (put_stand-same st.stands p i _ eq) is in let (old, was, same, kept) = ended-was (st.stands p).scans k k' b' now in subst (λ (z : ℕ). s' < z) (sym kept) (mk.m_once p k' c' a' e' s' old in_n was (subst (λ (j : ℕ). (ms j).visited k' (object a' e' c') ≡ true) eq vs) pr)) (λ ne. grind (arith, nat_tests, mk.m_once i k' c' a' e' s' b' li));
 })
 
--- kind 10
+-- kind LoadDirectory
 pub survey : (ms : ℕ → Marks) (sh : Layout) (st : S.State) (p : ℕ) (x : ℕ) (calm : Bool) (c : ℕ) (told : ℕ) → p < sh.passes → (st.stands p).section ≡ Inside x calm → (st.stands p).phase ≡ phase.Idle → Shut sh st → ScansAgree sh st → MarksAgree sh st ms → IsHere st
     → KeepsMarks ms sh st p (Start (call.Survey c)) (Inside x calm) phase.Idle told (Load (place.Directory c 0))
 survey ms sh st p x calm c told in_n at_sec at_call h r mk hr = unmarked sh (did sh st p (Start (call.Survey c)) (Inside x calm) phase.Idle told (Load (place.Directory c 0))) ms p st.world (change sh p (st.stands p) (Inside x calm) phase.Idle (Start (call.Survey c)) told (seen (Load (place.Directory c 0)) st.memory)).event (grind (arith, nat_tests)) (record {
@@ -115,7 +115,7 @@ survey ms sh st p x calm c told in_n at_sec at_call h r mk hr = unmarked sh (did
   m_once = λ i k' c' a' e' s' b' li is vs pr. grind (arith, nat_tests, mk.m_once i k' c' a' e' s' b' li);
 })
 
--- kind 10
+-- kind LoadDirectory
 pub survey_dir : (ms : ℕ → Marks) (sh : Layout) (st : S.State) (p : ℕ) (x : ℕ) (calm : Bool) (c : ℕ) (t : ℕ) (cnt : Count) (told : ℕ) → p < sh.passes → (st.stands p).section ≡ Inside x calm → (st.stands p).phase ≡ phase.Survey (walk.Directory c t cnt) → Shut sh st → ScansAgree sh st → MarksAgree sh st ms → IsHere st
     → KeepsMarks ms sh st p Go (Inside x calm) (phase.Survey (walk.Directory c t cnt)) told (Load (place.Directory c t))
 survey_dir ms sh st p x calm c t cnt told in_n at_sec at_call h r mk hr = unmarked sh (did sh st p Go (Inside x calm) (phase.Survey (walk.Directory c t cnt)) told (Load (place.Directory c t))) ms p st.world (change sh p (st.stands p) (Inside x calm) (phase.Survey (walk.Directory c t cnt)) Go told (seen (Load (place.Directory c t)) st.memory)).event (grind (arith, nat_tests)) (record {
@@ -126,7 +126,7 @@ survey_dir ms sh st p x calm c t cnt told in_n at_sec at_call h r mk hr = unmark
   m_once = λ i k' c' a' e' s' b' li is vs pr. grind (arith, nat_tests, mk.m_once i k' c' a' e' s' b' li);
 })
 
--- kind 24
+-- kind LoadBack
 pub survey_back : (ms : ℕ → Marks) (sh : Layout) (st : S.State) (p : ℕ) (x : ℕ) (calm : Bool) (c : ℕ) (t : ℕ) (cnt : Count) (told : ℕ) → p < sh.passes → (st.stands p).section ≡ Inside x calm → (st.stands p).phase ≡ phase.Survey (walk.Back c t cnt) → Shut sh st → ScansAgree sh st → MarksAgree sh st ms → IsHere st
     → KeepsMarks ms sh st p Go (Inside x calm) (phase.Survey (walk.Back c t cnt)) told (Load (place.Back c t))
 survey_back ms sh st p x calm c t cnt told in_n at_sec at_call h r mk hr = unmarked sh (did sh st p Go (Inside x calm) (phase.Survey (walk.Back c t cnt)) told (Load (place.Back c t))) ms p st.world (change sh p (st.stands p) (Inside x calm) (phase.Survey (walk.Back c t cnt)) Go told (seen (Load (place.Back c t)) st.memory)).event (grind (arith, nat_tests)) (record {
@@ -137,7 +137,7 @@ survey_back ms sh st p x calm c t cnt told in_n at_sec at_call h r mk hr = unmar
   m_once = λ i k' c' a' e' s' b' li is vs pr. grind (arith, nat_tests, mk.m_once i k' c' a' e' s' b' li);
 })
 
--- kind 13
+-- kind LoadEntry
 pub survey_entry : (ms : ℕ → Marks) (sh : Layout) (st : S.State) (p : ℕ) (x : ℕ) (calm : Bool) (c : ℕ) (t : ℕ) (cnt : Count) (c2 : ℕ) (a : ℕ) (e : ℕ) (told : ℕ) → p < sh.passes → (st.stands p).section ≡ Inside x calm → (st.stands p).phase ≡ phase.Survey (walk.Entry c t cnt (object a e c2)) → Shut sh st → ScansAgree sh st → MarksAgree sh st ms → IsHere st
     → KeepsMarks ms sh st p Go (Inside x calm) (phase.Survey (walk.Entry c t cnt (object a e c2))) told (Load (place.Entry c2 e))
 survey_entry ms sh st p x calm c t cnt c2 a e told in_n at_sec at_call h r mk hr = unmarked sh (did sh st p Go (Inside x calm) (phase.Survey (walk.Entry c t cnt (object a e c2))) told (Load (place.Entry c2 e))) ms p st.world (change sh p (st.stands p) (Inside x calm) (phase.Survey (walk.Entry c t cnt (object a e c2))) Go told (seen (Load (place.Entry c2 e)) st.memory)).event (grind (arith, nat_tests)) (record {

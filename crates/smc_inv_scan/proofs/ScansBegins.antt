@@ -19,7 +19,7 @@ use Rattle.smc_rules.specs.State.{put_stand}
 use Rattle.smc_agreement.proofs.Whole.{Shut, calls, moves, did, sections}
 use Rattle.smc_inv_scan.specs.Scans.{ScansAgree}
 
--- kind 26
+-- kind OpenRound
 pub starts_begin : (sh : Layout) (st : S.State) (p : ℕ) (x : ℕ) (calm : Bool) (c : ℕ) (told : ℕ) → p < sh.passes → (st.stands p).section ≡ Inside x calm → (st.stands p).phase ≡ phase.Idle → Shut sh st → ScansAgree sh st
     → ScansAgree sh (did sh st p (Start (call.Begin c)) (Inside x calm) phase.Idle told (Exchange place.Round (word.Round None) (word.Round (Some (record { bound = x + 1; pass = p; coll = c })))))
 starts_begin sh st p x calm c told in_n at_sec at_call h r = record {
@@ -35,7 +35,7 @@ starts_begin sh st p x calm c told in_n at_sec at_call h r = record {
   s_locked = λ i k' c' a' e' s' b' li lk is of. grind (arith, nat_tests, r.s_locked i k' c' a' e' s' b' li, (calls h).calls p in_n, sections sh st h p in_n);
 }
 
--- kind 10
+-- kind LoadDirectory
 pub count_dir : (sh : Layout) (st : S.State) (p : ℕ) (x : ℕ) (calm : Bool) (c : ℕ) (t : ℕ) (cnt : Count) (told : ℕ) → p < sh.passes → (st.stands p).section ≡ Inside x calm → (st.stands p).phase ≡ phase.Begin (begin.Count (walk.Directory c t cnt)) → Shut sh st → ScansAgree sh st
     → ScansAgree sh (did sh st p Go (Inside x calm) (phase.Begin (begin.Count (walk.Directory c t cnt))) told (Load (place.Directory c t)))
 count_dir sh st p x calm c t cnt told in_n at_sec at_call h r = record {
@@ -51,7 +51,7 @@ count_dir sh st p x calm c t cnt told in_n at_sec at_call h r = record {
   s_locked = λ i k' c' a' e' s' b' li lk is of. grind (arith, nat_tests, r.s_locked i k' c' a' e' s' b' li, (calls h).calls p in_n, sections sh st h p in_n);
 }
 
--- kind 24
+-- kind LoadBack
 pub count_back : (sh : Layout) (st : S.State) (p : ℕ) (x : ℕ) (calm : Bool) (c : ℕ) (t : ℕ) (cnt : Count) (told : ℕ) → p < sh.passes → (st.stands p).section ≡ Inside x calm → (st.stands p).phase ≡ phase.Begin (begin.Count (walk.Back c t cnt)) → Shut sh st → ScansAgree sh st
     → ScansAgree sh (did sh st p Go (Inside x calm) (phase.Begin (begin.Count (walk.Back c t cnt))) told (Load (place.Back c t)))
 count_back sh st p x calm c t cnt told in_n at_sec at_call h r = record {
@@ -67,7 +67,7 @@ count_back sh st p x calm c t cnt told in_n at_sec at_call h r = record {
   s_locked = λ i k' c' a' e' s' b' li lk is of. grind (arith, nat_tests, r.s_locked i k' c' a' e' s' b' li, (calls h).calls p in_n, sections sh st h p in_n);
 }
 
--- kind 13
+-- kind LoadEntry
 pub count_entry : (sh : Layout) (st : S.State) (p : ℕ) (x : ℕ) (calm : Bool) (c : ℕ) (t : ℕ) (cnt : Count) (c2 : ℕ) (a : ℕ) (e : ℕ) (told : ℕ) → p < sh.passes → (st.stands p).section ≡ Inside x calm → (st.stands p).phase ≡ phase.Begin (begin.Count (walk.Entry c t cnt (object a e c2))) → Shut sh st → ScansAgree sh st
     → ScansAgree sh (did sh st p Go (Inside x calm) (phase.Begin (begin.Count (walk.Entry c t cnt (object a e c2)))) told (Load (place.Entry c2 e)))
 count_entry sh st p x calm c t cnt c2 a e told in_n at_sec at_call h r = record {
@@ -83,7 +83,7 @@ count_entry sh st p x calm c t cnt c2 a e told in_n at_sec at_call h r = record 
   s_locked = λ i k' c' a' e' s' b' li lk is of. grind (arith, nat_tests, r.s_locked i k' c' a' e' s' b' li, (calls h).calls p in_n, sections sh st h p in_n);
 }
 
--- kind 36
+-- kind CloseRound
 pub nothing : (sh : Layout) (st : S.State) (p : ℕ) (x : ℕ) (calm : Bool) (c : ℕ) (told : ℕ) → p < sh.passes → (st.stands p).section ≡ Inside x calm → (st.stands p).phase ≡ phase.Begin (begin.Nothing c) → Shut sh st → ScansAgree sh st
     → ScansAgree sh (did sh st p Go (Inside x calm) (phase.Begin (begin.Nothing c)) told (Store place.Round (word.Round None)))
 nothing sh st p x calm c told in_n at_sec at_call h r = record {
@@ -99,7 +99,7 @@ nothing sh st p x calm c told in_n at_sec at_call h r = record {
   s_locked = λ i k' c' a' e' s' b' li lk is of. grind (arith, nat_tests, r.s_locked i k' c' a' e' s' b' li, (calls h).calls p in_n, sections sh st h p in_n);
 }
 
--- kind 10
+-- kind LoadDirectory
 pub source_dir : (sh : Layout) (st : S.State) (p : ℕ) (x : ℕ) (calm : Bool) (m : Walk) (told : ℕ) → p < sh.passes → (st.stands p).section ≡ Inside x calm → (st.stands p).phase ≡ phase.Begin (begin.SourceDirectory m) → Shut sh st → ScansAgree sh st
     → ScansAgree sh (did sh st p Go (Inside x calm) (phase.Begin (begin.SourceDirectory m)) told (Load (place.Directory m.coll m.source)))
 source_dir sh st p x calm m told in_n at_sec at_call h r = record {
@@ -115,7 +115,7 @@ source_dir sh st p x calm m told in_n at_sec at_call h r = record {
   s_locked = λ i k' c' a' e' s' b' li lk is of. grind (arith, nat_tests, r.s_locked i k' c' a' e' s' b' li, (calls h).calls p in_n, sections sh st h p in_n);
 }
 
--- kind 24
+-- kind LoadBack
 pub source_back : (sh : Layout) (st : S.State) (p : ℕ) (x : ℕ) (calm : Bool) (m : Walk) (told : ℕ) → p < sh.passes → (st.stands p).section ≡ Inside x calm → (st.stands p).phase ≡ phase.Begin (begin.SourceBack m) → Shut sh st → ScansAgree sh st
     → ScansAgree sh (did sh st p Go (Inside x calm) (phase.Begin (begin.SourceBack m)) told (Load (place.Back m.coll m.source)))
 source_back sh st p x calm m told in_n at_sec at_call h r = record {
@@ -131,7 +131,7 @@ source_back sh st p x calm m told in_n at_sec at_call h r = record {
   s_locked = λ i k' c' a' e' s' b' li lk is of. grind (arith, nat_tests, r.s_locked i k' c' a' e' s' b' li, (calls h).calls p in_n, sections sh st h p in_n);
 }
 
--- kind 13
+-- kind LoadEntry
 pub source_entry : (sh : Layout) (st : S.State) (p : ℕ) (x : ℕ) (calm : Bool) (m : Walk) (a : ℕ) (e : ℕ) (told : ℕ) → p < sh.passes → (st.stands p).section ≡ Inside x calm → (st.stands p).phase ≡ phase.Begin (begin.SourceEntry m (object a e m.coll)) → Shut sh st → ScansAgree sh st
     → ScansAgree sh (did sh st p Go (Inside x calm) (phase.Begin (begin.SourceEntry m (object a e m.coll))) told (Load (place.Entry m.coll e)))
 source_entry sh st p x calm m a e told in_n at_sec at_call h r = record {

@@ -30,7 +30,7 @@ use Rattle.smc_inv_scan.specs.Scans.{ScansAgree, IsAt, AreApart, IsPassed, scan_
 use Rattle.smc_inv_scan.proofs.StepViews.{looked-was, looked-apart, looked-at, looked-over, looked-slot, looked-owner}
 use Rattle.smc_inv_scan.proofs.PlaceLaws.{look_place, look_back, passed_frozen, passed_locked}
 
--- kind 32
+-- kind LoadForward
 pub l_fwd : (sh : Layout) (st : S.State) (p : ℕ) (x : ℕ) (calm : Bool) (who : Seeker) (c : ℕ) (a : ℕ) (e : ℕ) (q : ℕ) (told : ℕ) → p < sh.passes → (st.stands p).section ≡ Inside x calm → (st.stands p).phase ≡ phase.Look (look.Help who (object a e c) q copy.Target) → Shut sh st → ScansAgree sh st
     → ScansAgree sh (did sh st p Go (Inside x calm) (phase.Look (look.Help who (object a e c) q copy.Target)) told (Load (place.Forward c q)))
 l_fwd sh st p x calm who c a e q told in_n at_sec at_call h r = record {
@@ -46,7 +46,7 @@ l_fwd sh st p x calm who c a e q told in_n at_sec at_call h r = record {
   s_locked = λ i k' c' a' e' s' b' li lk is of. by_eq i p (λ eq. let now = subst (λ (l : Stand). scan_of l.scans k' ≡ Some b') (put_stand-same st.stands p i _ eq) is in let lk0 : state_in st.memory c' e' ≡ state.Locked a' s' = lk in let (old, was, same, at) = looked-was who (look_finding sh calm (look.Help who (object a e c) q copy.Target) (st.memory (place.Forward c q))) (st.stands p).scans k' b' now in let bound : b'.place ≤ forward_in st.memory c' s' = elim at [ inl kept ↦ subst (λ (z : ℕ). z ≤ forward_in st.memory c' s') (sym kept) (r.s_locked p k' c' a' e' s' old in_n lk0 was (sym same ∙ of)) | inr left ↦ let (c0, t0, who0, step0, decided) = left in let own_back = (look_back sh st h r p k' c0 t0 a e c (look.Help who (object a e c) q copy.Target) in_n at_call who0 refl) in passed_locked sh st h r p k' c0 t0 c' a' e' s' b'.place old in_n lk0 was (sym same ∙ of) (look_place sh st h r p k' c0 t0 old (look.Help who (object a e c) q copy.Target) in_n at_call who0 was) step0 (λ nm inc hm. absurd (cc)) ] in grind (arith, nat_tests, bound)) (λ ne. grind (arith, nat_tests, r.s_locked i k' c' a' e' s' b' li));
 }
 
--- kind 19
+-- kind LoadField
 pub l_read : (sh : Layout) (st : S.State) (p : ℕ) (x : ℕ) (calm : Bool) (who : Seeker) (c : ℕ) (a : ℕ) (e : ℕ) (q : ℕ) (t : ℕ) (f : ℕ) (told : ℕ) → p < sh.passes → (st.stands p).section ≡ Inside x calm → (st.stands p).phase ≡ phase.Look (look.Help who (object a e c) q (copy.Load t f)) → Shut sh st → ScansAgree sh st
     → ScansAgree sh (did sh st p Go (Inside x calm) (phase.Look (look.Help who (object a e c) q (copy.Load t f))) told (Load (place.Field c q f)))
 l_read sh st p x calm who c a e q t f told in_n at_sec at_call h r = record {
@@ -62,7 +62,7 @@ l_read sh st p x calm who c a e q t f told in_n at_sec at_call h r = record {
   s_locked = λ i k' c' a' e' s' b' li lk is of. by_eq i p (λ eq. let now = subst (λ (l : Stand). scan_of l.scans k' ≡ Some b') (put_stand-same st.stands p i _ eq) is in let lk0 : state_in st.memory c' e' ≡ state.Locked a' s' = lk in let (old, was, same, at) = looked-was who (look_finding sh calm (look.Help who (object a e c) q (copy.Load t f)) (st.memory (place.Field c q f))) (st.stands p).scans k' b' now in let bound : b'.place ≤ forward_in st.memory c' s' = elim at [ inl kept ↦ subst (λ (z : ℕ). z ≤ forward_in st.memory c' s') (sym kept) (r.s_locked p k' c' a' e' s' old in_n lk0 was (sym same ∙ of)) | inr left ↦ let (c0, t0, who0, step0, decided) = left in let own_back = (look_back sh st h r p k' c0 t0 a e c (look.Help who (object a e c) q (copy.Load t f)) in_n at_call who0 refl) in passed_locked sh st h r p k' c0 t0 c' a' e' s' b'.place old in_n lk0 was (sym same ∙ of) (look_place sh st h r p k' c0 t0 old (look.Help who (object a e c) q (copy.Load t f)) in_n at_call who0 was) step0 (λ nm inc hm. absurd (cc)) ] in grind (arith, nat_tests, bound)) (λ ne. grind (arith, nat_tests, r.s_locked i k' c' a' e' s' b' li));
 }
 
--- kind 33
+-- kind CopyField
 pub l_put : (sh : Layout) (st : S.State) (p : ℕ) (x : ℕ) (calm : Bool) (who : Seeker) (c : ℕ) (a : ℕ) (e : ℕ) (q : ℕ) (t : ℕ) (f : ℕ) (w : ℕ) (told : ℕ) → p < sh.passes → (st.stands p).section ≡ Inside x calm → (st.stands p).phase ≡ phase.Look (look.Help who (object a e c) q (copy.Put t f w)) → Shut sh st → ScansAgree sh st
     → ScansAgree sh (did sh st p Go (Inside x calm) (phase.Look (look.Help who (object a e c) q (copy.Put t f w))) told (Exchange (place.Field c t f) (word.Plain BLANK) (word.Plain w)))
 l_put sh st p x calm who c a e q t f w told in_n at_sec at_call h r = record {
@@ -78,7 +78,7 @@ l_put sh st p x calm who c a e q t f w told in_n at_sec at_call h r = record {
   s_locked = λ i k' c' a' e' s' b' li lk is of. by_eq i p (λ eq. let now = subst (λ (l : Stand). scan_of l.scans k' ≡ Some b') (put_stand-same st.stands p i _ eq) is in let lk0 : state_in st.memory c' e' ≡ state.Locked a' s' = grind (arith, nat_tests, lk) in let (old, was, same, at) = looked-was who (look_finding sh calm (look.Help who (object a e c) q (copy.Put t f w)) (st.memory (place.Field c t f))) (st.stands p).scans k' b' now in let bound : b'.place ≤ forward_in st.memory c' s' = elim at [ inl kept ↦ subst (λ (z : ℕ). z ≤ forward_in st.memory c' s') (sym kept) (r.s_locked p k' c' a' e' s' old in_n lk0 was (sym same ∙ of)) | inr left ↦ let (c0, t0, who0, step0, decided) = left in let own_back = (look_back sh st h r p k' c0 t0 a e c (look.Help who (object a e c) q (copy.Put t f w)) in_n at_call who0 refl) in passed_locked sh st h r p k' c0 t0 c' a' e' s' b'.place old in_n lk0 was (sym same ∙ of) (look_place sh st h r p k' c0 t0 old (look.Help who (object a e c) q (copy.Put t f w)) in_n at_call who0 was) step0 (λ nm inc hm. absurd (cc)) ] in grind (arith, nat_tests, bound)) (λ ne. grind (arith, nat_tests, r.s_locked i k' c' a' e' s' b' li));
 }
 
--- kind 34
+-- kind Swing
 pub l_swing : (sh : Layout) (st : S.State) (p : ℕ) (x : ℕ) (calm : Bool) (who : Seeker) (c : ℕ) (a : ℕ) (e : ℕ) (q : ℕ) (t : ℕ) (told : ℕ) → p < sh.passes → (st.stands p).section ≡ Inside x calm → (st.stands p).phase ≡ phase.Look (look.Help who (object a e c) q (copy.Swing t)) → Shut sh st → ScansAgree sh st
     → ScansAgree sh (did sh st p Go (Inside x calm) (phase.Look (look.Help who (object a e c) q (copy.Swing t))) told (Exchange (place.Entry c e) (word.Entry (state.Locked a q)) (word.Entry (state.Present a t))))
 l_swing sh st p x calm who c a e q t told in_n at_sec at_call h r = record {

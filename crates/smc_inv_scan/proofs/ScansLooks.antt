@@ -29,7 +29,7 @@ use Rattle.smc_inv_scan.specs.Scans.{ScansAgree, IsAt, AreApart, IsPassed, scan_
 use Rattle.smc_inv_scan.proofs.StepViews.{looked-was, looked-apart, looked-at, looked-over, looked-slot, looked-owner}
 use Rattle.smc_inv_scan.proofs.PlaceLaws.{look_place, look_back, passed_frozen, passed_locked, load_frozen, load_locked}
 
--- kind 25
+-- kind LookUp
 pub starts_look : (sh : Layout) (st : S.State) (p : ℕ) (x : ℕ) (calm : Bool) (c : ℕ) (a : ℕ) (e : ℕ) (told : ℕ) → p < sh.passes → (st.stands p).section ≡ Inside x calm → (st.stands p).phase ≡ phase.Idle → has_place sh (place.Entry c e) ≡ true → Shut sh st → ScansAgree sh st
     → ScansAgree sh (did sh st p (Start (call.Look (object a e c))) (Inside x calm) phase.Idle told (Load (place.Entry c e)))
 starts_look sh st p x calm c a e told in_n at_sec at_call pre1 h r = record {
@@ -45,7 +45,7 @@ starts_look sh st p x calm c a e told in_n at_sec at_call pre1 h r = record {
   s_locked = λ i k' c' a' e' s' b' li lk is of. grind (arith, nat_tests, r.s_locked i k' c' a' e' s' b' li, (calls h).calls p in_n, sections sh st h p in_n);
 }
 
--- kind 8
+-- kind LoadSection
 pub look_out : (sh : Layout) (st : S.State) (p : ℕ) (x : ℕ) (calm : Bool) (c : ℕ) (a : ℕ) (e : ℕ) (told : ℕ) → p < sh.passes → (st.stands p).section ≡ Inside x calm → (st.stands p).phase ≡ phase.Idle → has_place sh (place.Entry c e) ≡ false → Shut sh st → ScansAgree sh st
     → ScansAgree sh (did sh st p (Start (call.Look (object a e c))) (Inside x calm) phase.Idle told (Load (place.Section p)))
 look_out sh st p x calm c a e told in_n at_sec at_call pre1 h r = record {
@@ -61,7 +61,7 @@ look_out sh st p x calm c a e told in_n at_sec at_call pre1 h r = record {
   s_locked = λ i k' c' a' e' s' b' li lk is of. grind (arith, nat_tests, r.s_locked i k' c' a' e' s' b' li, (calls h).calls p in_n, sections sh st h p in_n);
 }
 
--- kind 25
+-- kind LookUp
 pub look_load : (sh : Layout) (st : S.State) (p : ℕ) (x : ℕ) (calm : Bool) (who : Seeker) (c : ℕ) (a : ℕ) (e : ℕ) (told : ℕ) → p < sh.passes → (st.stands p).section ≡ Inside x calm → (st.stands p).phase ≡ phase.Look (look.Load who (object a e c)) → Shut sh st → ScansAgree sh st
     → ScansAgree sh (did sh st p Go (Inside x calm) (phase.Look (look.Load who (object a e c))) told (Load (place.Entry c e)))
 look_load sh st p x calm who c a e told in_n at_sec at_call h r = record {
@@ -77,7 +77,7 @@ look_load sh st p x calm who c a e told in_n at_sec at_call h r = record {
   s_locked = λ i k' c' a' e' s' b' li lk is of. by_eq i p (λ eq. let now = subst (λ (l : Stand). scan_of l.scans k' ≡ Some b') (put_stand-same st.stands p i _ eq) is in let lk0 : state_in st.memory c' e' ≡ state.Locked a' s' = lk in let (old, was, same, at) = looked-was who (look_finding sh calm (look.Load who (object a e c)) (st.memory (place.Entry c e))) (st.stands p).scans k' b' now in let bound : b'.place ≤ forward_in st.memory c' s' = elim at [ inl kept ↦ subst (λ (z : ℕ). z ≤ forward_in st.memory c' s') (sym kept) (r.s_locked p k' c' a' e' s' old in_n lk0 was (sym same ∙ of)) | inr left ↦ let (c0, t0, who0, step0, decided) = left in let own_back = (look_back sh st h r p k' c0 t0 a e c (look.Load who (object a e c)) in_n at_call who0 refl) in passed_locked sh st h r p k' c0 t0 c' a' e' s' b'.place old in_n lk0 was (sym same ∙ of) (look_place sh st h r p k' c0 t0 old (look.Load who (object a e c)) in_n at_call who0 was) step0 (λ nm inc hm. load_locked sh st h r p x c a e s' calm in_n at_sec (grind (arith, own_back, nm, lk0)) decided) ] in grind (arith, nat_tests, bound)) (λ ne. grind (arith, nat_tests, r.s_locked i k' c' a' e' s' b' li));
 }
 
--- kind 30
+-- kind Unfreeze
 pub abandon : (sh : Layout) (st : S.State) (p : ℕ) (x : ℕ) (calm : Bool) (who : Seeker) (c : ℕ) (a : ℕ) (e : ℕ) (q : ℕ) (told : ℕ) → p < sh.passes → (st.stands p).section ≡ Inside x calm → (st.stands p).phase ≡ phase.Look (look.Abandon who (object a e c) q) → Shut sh st → ScansAgree sh st
     → ScansAgree sh (did sh st p Go (Inside x calm) (phase.Look (look.Abandon who (object a e c) q)) told (Exchange (place.Entry c e) (word.Entry (state.Frozen a q)) (word.Entry (state.Present a q))))
 abandon sh st p x calm who c a e q told in_n at_sec at_call h r = record {

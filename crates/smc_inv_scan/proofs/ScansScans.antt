@@ -32,7 +32,7 @@ use Rattle.smc_inv_scan.proofs.ListLaws.{scan_of-number, no_scan, ended-was, end
 use Rattle.smc_inv_scan.proofs.StepViews.{seen_dir-was, seen_dir-apart, seen_dir-at, seen_dir-over, seen_dir-slot, seen_dir-owner, seen_back-was, seen_back-apart, seen_back-at, seen_back-over, seen_back-slot, seen_back-owner, next_slot-scans, next_slot-change, next_over-was, next_over-apart, next_over-phase}
 use Rattle.smc_inv_scan.proofs.PlaceLaws.{call_place, passed_frozen, passed_locked}
 
--- kind 8
+-- kind LoadSection
 pub starts_scan : (sh : Layout) (st : S.State) (p : ℕ) (x : ℕ) (calm : Bool) (c : ℕ) (told : ℕ) → p < sh.passes → (st.stands p).section ≡ Inside x calm → (st.stands p).phase ≡ phase.Idle → Shut sh st → ScansAgree sh st
     → ScansAgree sh (did sh st p (Start (call.Scan c)) (Inside x calm) phase.Idle told (Load (place.Section p)))
 starts_scan sh st p x calm c told in_n at_sec at_call h r = record {
@@ -48,7 +48,7 @@ starts_scan sh st p x calm c told in_n at_sec at_call h r = record {
   s_locked = λ i k' c' a' e' s' b' li lk is of. by_eq i p (λ eq. let now = subst (λ (l : Stand). scan_of l.scans k' ≡ Some b') (put_stand-same st.stands p i _ eq) is in elim (begun-was (st.stands p).scans (new_scan (scan_number p (st.stands p).begun) c) k' b' now) [ inl was ↦ r.s_locked p k' c' a' e' s' b' in_n lk was of | inr new ↦ grind (arith, new) ]) (λ ne. grind (arith, nat_tests, r.s_locked i k' c' a' e' s' b' li));
 }
 
--- kind 8
+-- kind LoadSection
 pub next_over : (sh : Layout) (st : S.State) (p : ℕ) (x : ℕ) (calm : Bool) (k : ℕ) (b1 : Scan) (told : ℕ) → p < sh.passes → (st.stands p).section ≡ Inside x calm → (st.stands p).phase ≡ phase.Idle → scan_of (st.stands p).scans k ≡ Some b1 → is_over sh b1 ≡ true → Shut sh st → ScansAgree sh st
     → ScansAgree sh (did sh st p (Start (call.Next k)) (Inside x calm) phase.Idle told (Load (place.Section p)))
 next_over sh st p x calm k b1 told in_n at_sec at_call pre1 pre2 h r = record {
@@ -64,7 +64,7 @@ next_over sh st p x calm k b1 told in_n at_sec at_call pre1 pre2 h r = record {
   s_locked = λ i k' c' a' e' s' b' li lk is of. by_eq i p (λ eq. let now = subst (λ (l : Stand). scan_of l.scans k' ≡ Some b') (put_stand-same st.stands p i _ eq) is in let (old, was, same, kept) = next_over-was sh (st.stands p).scans k b1 (st.memory (place.Section p)) k' b' pre1 pre2 now in subst (λ (z : ℕ). z ≤ forward_in st.memory c' s') (sym kept) (r.s_locked p k' c' a' e' s' old in_n lk was (sym same ∙ of))) (λ ne. grind (arith, nat_tests, r.s_locked i k' c' a' e' s' b' li));
 }
 
--- kind 10
+-- kind LoadDirectory
 pub next_slot : (sh : Layout) (st : S.State) (p : ℕ) (x : ℕ) (calm : Bool) (k : ℕ) (b1 : Scan) (told : ℕ) → p < sh.passes → (st.stands p).section ≡ Inside x calm → (st.stands p).phase ≡ phase.Idle → scan_of (st.stands p).scans k ≡ Some b1 → is_over sh b1 ≡ false → Shut sh st → ScansAgree sh st
     → ScansAgree sh (did sh st p (Start (call.Next k)) (Inside x calm) phase.Idle told (Load (place.Directory b1.coll b1.place)))
 next_slot sh st p x calm k b1 told in_n at_sec at_call pre1 pre2 h r = record {
@@ -80,7 +80,7 @@ next_slot sh st p x calm k b1 told in_n at_sec at_call pre1 pre2 h r = record {
   s_locked = λ i k' c' a' e' s' b' li lk is of. by_eq i p (λ eq. let now = subst (λ (l : Stand). scan_of l.scans k' ≡ Some b') (put_stand-same st.stands p i _ eq) is in let lk0 : state_in st.memory c' e' ≡ state.Locked a' s' = lk in let (old, was, same, at) = seen_dir-was (st.stands p).scans k b1.coll b1.place (st.memory (place.Directory b1.coll b1.place)) k' b' (subst (λ (y : List Scan). scan_of y k' ≡ Some b') (next_slot-scans sh (st.stands p).scans k b1 (st.memory (place.Directory b1.coll b1.place)) pre1 pre2) now) in let bound : b'.place ≤ forward_in st.memory c' s' = elim at [ inl kept ↦ subst (λ (z : ℕ). z ≤ forward_in st.memory c' s') (sym kept) (r.s_locked p k' c' a' e' s' old in_n lk0 was (sym same ∙ of)) | inr left ↦ passed_locked sh st h r p k' b1.coll b1.place c' a' e' s' b'.place old in_n lk0 was (sym same ∙ of) (subst (IsAt b1.coll b1.place) (sym pre1 ∙ subst (λ (z : ℕ). scan_of (st.stands p).scans z ≡ Some old) left.0 was) (refl, refl)) left.1 (λ nm inc hm. absurd (grind (arith, nat_tests, nm, inc, left.2))) ] in grind (arith, nat_tests, bound)) (λ ne. grind (arith, nat_tests, r.s_locked i k' c' a' e' s' b' li));
 }
 
--- kind 10
+-- kind LoadDirectory
 pub scan_dir : (sh : Layout) (st : S.State) (p : ℕ) (x : ℕ) (calm : Bool) (k : ℕ) (c : ℕ) (t : ℕ) (told : ℕ) → p < sh.passes → (st.stands p).section ≡ Inside x calm → (st.stands p).phase ≡ phase.Scan (scan.Directory k c t) → Shut sh st → ScansAgree sh st
     → ScansAgree sh (did sh st p Go (Inside x calm) (phase.Scan (scan.Directory k c t)) told (Load (place.Directory c t)))
 scan_dir sh st p x calm k c t told in_n at_sec at_call h r = record {
@@ -96,7 +96,7 @@ scan_dir sh st p x calm k c t told in_n at_sec at_call h r = record {
   s_locked = λ i k' c' a' e' s' b' li lk is of. by_eq i p (λ eq. let now = subst (λ (l : Stand). scan_of l.scans k' ≡ Some b') (put_stand-same st.stands p i _ eq) is in let lk0 : state_in st.memory c' e' ≡ state.Locked a' s' = lk in let (old, was, same, at) = seen_dir-was (st.stands p).scans k c t (st.memory (place.Directory c t)) k' b' now in let bound : b'.place ≤ forward_in st.memory c' s' = elim at [ inl kept ↦ subst (λ (z : ℕ). z ≤ forward_in st.memory c' s') (sym kept) (r.s_locked p k' c' a' e' s' old in_n lk0 was (sym same ∙ of)) | inr left ↦ passed_locked sh st h r p k' c t c' a' e' s' b'.place old in_n lk0 was (sym same ∙ of) (call_place sh st h r p k c t old (phase.Scan (scan.Directory k c t)) in_n at_call refl (subst (λ (z : ℕ). scan_of (st.stands p).scans z ≡ Some old) left.0 was)) left.1 (λ nm inc hm. absurd (grind (arith, nat_tests, nm, inc, left.2))) ] in grind (arith, nat_tests, bound)) (λ ne. grind (arith, nat_tests, r.s_locked i k' c' a' e' s' b' li));
 }
 
--- kind 24
+-- kind LoadBack
 pub scan_back : (sh : Layout) (st : S.State) (p : ℕ) (x : ℕ) (calm : Bool) (k : ℕ) (c : ℕ) (t : ℕ) (told : ℕ) → p < sh.passes → (st.stands p).section ≡ Inside x calm → (st.stands p).phase ≡ phase.Scan (scan.Back k c t) → Shut sh st → ScansAgree sh st
     → ScansAgree sh (did sh st p Go (Inside x calm) (phase.Scan (scan.Back k c t)) told (Load (place.Back c t)))
 scan_back sh st p x calm k c t told in_n at_sec at_call h r = record {
@@ -112,7 +112,7 @@ scan_back sh st p x calm k c t told in_n at_sec at_call h r = record {
   s_locked = λ i k' c' a' e' s' b' li lk is of. by_eq i p (λ eq. let now = subst (λ (l : Stand). scan_of l.scans k' ≡ Some b') (put_stand-same st.stands p i _ eq) is in let lk0 : state_in st.memory c' e' ≡ state.Locked a' s' = lk in let (old, was, same, at) = seen_back-was (st.stands p).scans k c t (st.memory (place.Back c t)) k' b' now in let bound : b'.place ≤ forward_in st.memory c' s' = elim at [ inl kept ↦ subst (λ (z : ℕ). z ≤ forward_in st.memory c' s') (sym kept) (r.s_locked p k' c' a' e' s' old in_n lk0 was (sym same ∙ of)) | inr left ↦ passed_locked sh st h r p k' c t c' a' e' s' b'.place old in_n lk0 was (sym same ∙ of) (call_place sh st h r p k c t old (phase.Scan (scan.Back k c t)) in_n at_call refl (subst (λ (z : ℕ). scan_of (st.stands p).scans z ≡ Some old) left.0 was)) left.1 (λ nm inc hm. absurd (grind (arith, nat_tests, nm, inc, left.2))) ] in grind (arith, nat_tests, bound)) (λ ne. grind (arith, nat_tests, r.s_locked i k' c' a' e' s' b' li));
 }
 
--- kind 8
+-- kind LoadSection
 pub scan_end : (sh : Layout) (st : S.State) (p : ℕ) (x : ℕ) (calm : Bool) (k : ℕ) (told : ℕ) → p < sh.passes → (st.stands p).section ≡ Inside x calm → (st.stands p).phase ≡ phase.Scan (scan.End k) → Shut sh st → ScansAgree sh st
     → ScansAgree sh (did sh st p Go (Inside x calm) (phase.Scan (scan.End k)) told (Load (place.Section p)))
 scan_end sh st p x calm k told in_n at_sec at_call h r = record {
@@ -128,7 +128,7 @@ scan_end sh st p x calm k told in_n at_sec at_call h r = record {
   s_locked = λ i k' c' a' e' s' b' li lk is of. by_eq i p (λ eq. let now = subst (λ (l : Stand). scan_of l.scans k' ≡ Some b') (put_stand-same st.stands p i _ eq) is in let (old, was, same, kept) = ended-was (st.stands p).scans k k' b' now in subst (λ (z : ℕ). z ≤ forward_in st.memory c' s') (sym kept) (r.s_locked p k' c' a' e' s' old in_n lk was (sym same ∙ of))) (λ ne. grind (arith, nat_tests, r.s_locked i k' c' a' e' s' b' li));
 }
 
--- kind 10
+-- kind LoadDirectory
 pub survey : (sh : Layout) (st : S.State) (p : ℕ) (x : ℕ) (calm : Bool) (c : ℕ) (told : ℕ) → p < sh.passes → (st.stands p).section ≡ Inside x calm → (st.stands p).phase ≡ phase.Idle → Shut sh st → ScansAgree sh st
     → ScansAgree sh (did sh st p (Start (call.Survey c)) (Inside x calm) phase.Idle told (Load (place.Directory c 0)))
 survey sh st p x calm c told in_n at_sec at_call h r = record {
@@ -144,7 +144,7 @@ survey sh st p x calm c told in_n at_sec at_call h r = record {
   s_locked = λ i k' c' a' e' s' b' li lk is of. grind (arith, nat_tests, r.s_locked i k' c' a' e' s' b' li, (calls h).calls p in_n, sections sh st h p in_n);
 }
 
--- kind 10
+-- kind LoadDirectory
 pub survey_dir : (sh : Layout) (st : S.State) (p : ℕ) (x : ℕ) (calm : Bool) (c : ℕ) (t : ℕ) (cnt : Count) (told : ℕ) → p < sh.passes → (st.stands p).section ≡ Inside x calm → (st.stands p).phase ≡ phase.Survey (walk.Directory c t cnt) → Shut sh st → ScansAgree sh st
     → ScansAgree sh (did sh st p Go (Inside x calm) (phase.Survey (walk.Directory c t cnt)) told (Load (place.Directory c t)))
 survey_dir sh st p x calm c t cnt told in_n at_sec at_call h r = record {
@@ -160,7 +160,7 @@ survey_dir sh st p x calm c t cnt told in_n at_sec at_call h r = record {
   s_locked = λ i k' c' a' e' s' b' li lk is of. grind (arith, nat_tests, r.s_locked i k' c' a' e' s' b' li, (calls h).calls p in_n, sections sh st h p in_n);
 }
 
--- kind 24
+-- kind LoadBack
 pub survey_back : (sh : Layout) (st : S.State) (p : ℕ) (x : ℕ) (calm : Bool) (c : ℕ) (t : ℕ) (cnt : Count) (told : ℕ) → p < sh.passes → (st.stands p).section ≡ Inside x calm → (st.stands p).phase ≡ phase.Survey (walk.Back c t cnt) → Shut sh st → ScansAgree sh st
     → ScansAgree sh (did sh st p Go (Inside x calm) (phase.Survey (walk.Back c t cnt)) told (Load (place.Back c t)))
 survey_back sh st p x calm c t cnt told in_n at_sec at_call h r = record {
@@ -176,7 +176,7 @@ survey_back sh st p x calm c t cnt told in_n at_sec at_call h r = record {
   s_locked = λ i k' c' a' e' s' b' li lk is of. grind (arith, nat_tests, r.s_locked i k' c' a' e' s' b' li, (calls h).calls p in_n, sections sh st h p in_n);
 }
 
--- kind 13
+-- kind LoadEntry
 pub survey_entry : (sh : Layout) (st : S.State) (p : ℕ) (x : ℕ) (calm : Bool) (c : ℕ) (t : ℕ) (cnt : Count) (c2 : ℕ) (a : ℕ) (e : ℕ) (told : ℕ) → p < sh.passes → (st.stands p).section ≡ Inside x calm → (st.stands p).phase ≡ phase.Survey (walk.Entry c t cnt (object a e c2)) → Shut sh st → ScansAgree sh st
     → ScansAgree sh (did sh st p Go (Inside x calm) (phase.Survey (walk.Entry c t cnt (object a e c2))) told (Load (place.Entry c2 e)))
 survey_entry sh st p x calm c t cnt c2 a e told in_n at_sec at_call h r = record {

@@ -21,7 +21,7 @@ use Rattle.smc_agreement.specs.Agreement.{ClaimsAgree}
 use Rattle.smc_agreement.proofs.Whole.{Shut, calls, claims, did, sections}
 use Rattle.smc_agreement.proofs.CrossLaws.{below}
 
--- kind 26
+-- kind OpenRound
 pub starts_begin : (sh : Layout) (st : S.State) (p : ℕ) (x : ℕ) (calm : Bool) (c : ℕ) (told : ℕ) → p < sh.passes → (st.stands p).section ≡ Inside x calm → (st.stands p).phase ≡ phase.Idle → Shut sh st → Nothing sh st
     → ClaimsAgree sh (did sh st p (Start (call.Begin c)) (Inside x calm) phase.Idle told (Exchange place.Round (word.Round None) (word.Round (Some (record { bound = x + 1; pass = p; coll = c })))))
 starts_begin sh st p x calm c told in_n at_sec at_call h _ = record {
@@ -33,7 +33,7 @@ starts_begin sh st p x calm c told in_n at_sec at_call h _ = record {
   removed = λ c' a' e' is. grind (arith, nat_tests, (claims h).removed c' a' e', (calls h).calls p in_n, sections sh st h p in_n);
 }
 
--- kind 10
+-- kind LoadDirectory
 pub count_dir : (sh : Layout) (st : S.State) (p : ℕ) (x : ℕ) (calm : Bool) (c : ℕ) (t : ℕ) (cnt : Count) (told : ℕ) → p < sh.passes → (st.stands p).section ≡ Inside x calm → (st.stands p).phase ≡ phase.Begin (begin.Count (walk.Directory c t cnt)) → Shut sh st → Nothing sh st
     → ClaimsAgree sh (did sh st p Go (Inside x calm) (phase.Begin (begin.Count (walk.Directory c t cnt))) told (Load (place.Directory c t)))
 count_dir sh st p x calm c t cnt told in_n at_sec at_call h _ = record {
@@ -45,7 +45,7 @@ count_dir sh st p x calm c t cnt told in_n at_sec at_call h _ = record {
   removed = λ c' a' e' is. grind (arith, nat_tests, (claims h).removed c' a' e', (calls h).calls p in_n, sections sh st h p in_n);
 }
 
--- kind 24
+-- kind LoadBack
 pub count_back : (sh : Layout) (st : S.State) (p : ℕ) (x : ℕ) (calm : Bool) (c : ℕ) (t : ℕ) (cnt : Count) (told : ℕ) → p < sh.passes → (st.stands p).section ≡ Inside x calm → (st.stands p).phase ≡ phase.Begin (begin.Count (walk.Back c t cnt)) → Shut sh st → Nothing sh st
     → ClaimsAgree sh (did sh st p Go (Inside x calm) (phase.Begin (begin.Count (walk.Back c t cnt))) told (Load (place.Back c t)))
 count_back sh st p x calm c t cnt told in_n at_sec at_call h _ = record {
@@ -57,7 +57,7 @@ count_back sh st p x calm c t cnt told in_n at_sec at_call h _ = record {
   removed = λ c' a' e' is. grind (arith, nat_tests, (claims h).removed c' a' e', (calls h).calls p in_n, sections sh st h p in_n);
 }
 
--- kind 13
+-- kind LoadEntry
 pub count_entry : (sh : Layout) (st : S.State) (p : ℕ) (x : ℕ) (calm : Bool) (c : ℕ) (t : ℕ) (cnt : Count) (c2 : ℕ) (a : ℕ) (e : ℕ) (told : ℕ) → p < sh.passes → (st.stands p).section ≡ Inside x calm → (st.stands p).phase ≡ phase.Begin (begin.Count (walk.Entry c t cnt (object a e c2))) → Shut sh st → Nothing sh st
     → ClaimsAgree sh (did sh st p Go (Inside x calm) (phase.Begin (begin.Count (walk.Entry c t cnt (object a e c2)))) told (Load (place.Entry c2 e)))
 count_entry sh st p x calm c t cnt c2 a e told in_n at_sec at_call h _ = record {
@@ -69,7 +69,7 @@ count_entry sh st p x calm c t cnt c2 a e told in_n at_sec at_call h _ = record 
   removed = λ c' a' e' is. grind (arith, nat_tests, (claims h).removed c' a' e', (calls h).calls p in_n, sections sh st h p in_n);
 }
 
--- kind 36
+-- kind CloseRound
 pub nothing : (sh : Layout) (st : S.State) (p : ℕ) (x : ℕ) (calm : Bool) (c : ℕ) (told : ℕ) → p < sh.passes → (st.stands p).section ≡ Inside x calm → (st.stands p).phase ≡ phase.Begin (begin.Nothing c) → Shut sh st → Nothing sh st
     → ClaimsAgree sh (did sh st p Go (Inside x calm) (phase.Begin (begin.Nothing c)) told (Store place.Round (word.Round None)))
 nothing sh st p x calm c told in_n at_sec at_call h _ = record {
@@ -81,7 +81,7 @@ nothing sh st p x calm c told in_n at_sec at_call h _ = record {
   removed = λ c' a' e' is. grind (arith, nat_tests, (claims h).removed c' a' e', (calls h).calls p in_n, sections sh st h p in_n);
 }
 
--- kind 10
+-- kind LoadDirectory
 pub source_dir : (sh : Layout) (st : S.State) (p : ℕ) (x : ℕ) (calm : Bool) (m : Walk) (told : ℕ) → p < sh.passes → (st.stands p).section ≡ Inside x calm → (st.stands p).phase ≡ phase.Begin (begin.SourceDirectory m) → Shut sh st → Nothing sh st
     → ClaimsAgree sh (did sh st p Go (Inside x calm) (phase.Begin (begin.SourceDirectory m)) told (Load (place.Directory m.coll m.source)))
 source_dir sh st p x calm m told in_n at_sec at_call h _ = record {
@@ -93,7 +93,7 @@ source_dir sh st p x calm m told in_n at_sec at_call h _ = record {
   removed = λ c' a' e' is. grind (arith, nat_tests, (claims h).removed c' a' e', below sh st h p in_n (begin.SourceDirectory m) at_call, (calls h).calls p in_n, sections sh st h p in_n);
 }
 
--- kind 24
+-- kind LoadBack
 pub source_back : (sh : Layout) (st : S.State) (p : ℕ) (x : ℕ) (calm : Bool) (m : Walk) (told : ℕ) → p < sh.passes → (st.stands p).section ≡ Inside x calm → (st.stands p).phase ≡ phase.Begin (begin.SourceBack m) → Shut sh st → Nothing sh st
     → ClaimsAgree sh (did sh st p Go (Inside x calm) (phase.Begin (begin.SourceBack m)) told (Load (place.Back m.coll m.source)))
 source_back sh st p x calm m told in_n at_sec at_call h _ = record {
@@ -105,7 +105,7 @@ source_back sh st p x calm m told in_n at_sec at_call h _ = record {
   removed = λ c' a' e' is. grind (arith, nat_tests, (claims h).removed c' a' e', below sh st h p in_n (begin.SourceBack m) at_call, (calls h).calls p in_n, sections sh st h p in_n);
 }
 
--- kind 13
+-- kind LoadEntry
 pub source_entry : (sh : Layout) (st : S.State) (p : ℕ) (x : ℕ) (calm : Bool) (m : Walk) (a : ℕ) (e : ℕ) (told : ℕ) → p < sh.passes → (st.stands p).section ≡ Inside x calm → (st.stands p).phase ≡ phase.Begin (begin.SourceEntry m (object a e m.coll)) → Shut sh st → Nothing sh st
     → ClaimsAgree sh (did sh st p Go (Inside x calm) (phase.Begin (begin.SourceEntry m (object a e m.coll))) told (Load (place.Entry m.coll e)))
 source_entry sh st p x calm m a e told in_n at_sec at_call h _ = record {

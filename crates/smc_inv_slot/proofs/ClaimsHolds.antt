@@ -25,7 +25,7 @@ use Rattle.smc_agreement.specs.Agreement.{ClaimsAgree}
 use Rattle.smc_agreement.proofs.Whole.{Shut, calls, claims, objects, did, sections}
 use Rattle.smc_agreement.proofs.CrossLaws.{by_true}
 
--- kind 19
+-- kind LoadField
 pub read : (sh : Layout) (st : S.State) (p : ℕ) (x : ℕ) (calm : Bool) (c : ℕ) (a : ℕ) (e : ℕ) (q : ℕ) (f : ℕ) (told : ℕ) → p < sh.passes → (st.stands p).section ≡ Inside x calm → (st.stands p).phase ≡ phase.Idle → held_slot (st.stands p).held (object a e c) ≡ Some q → nat_lt f (width_of sh c) ≡ true → Shut sh st → Nothing sh st
     → ClaimsAgree sh (did sh st p (Start (call.Read (object a e c) f)) (Inside x calm) phase.Idle told (Load (place.Field c q f)))
 read sh st p x calm c a e q f told in_n at_sec at_call pre1 pre2 h _ = record {
@@ -37,7 +37,7 @@ read sh st p x calm c a e q f told in_n at_sec at_call pre1 pre2 h _ = record {
   removed = λ c' a' e' is. grind (arith, nat_tests, (claims h).removed c' a' e', (calls h).calls p in_n, sections sh st h p in_n);
 }
 
--- kind 20
+-- kind WriteField
 pub write : (sh : Layout) (st : S.State) (p : ℕ) (x : ℕ) (calm : Bool) (c : ℕ) (a : ℕ) (e : ℕ) (q : ℕ) (f : ℕ) (w : ℕ) (told : ℕ) → p < sh.passes → (st.stands p).section ≡ Inside x calm → (st.stands p).phase ≡ phase.Idle → held_slot (st.stands p).held (object a e c) ≡ Some q → (nat_lt f (width_of sh c) && is_value w) ≡ true → Shut sh st → Nothing sh st
     → ClaimsAgree sh (did sh st p (Start (call.Write (object a e c) f w)) (Inside x calm) phase.Idle told (Store (place.Field c q f) (word.Plain w)))
 write sh st p x calm c a e q f w told in_n at_sec at_call pre1 pre2 h _ = record {
@@ -49,7 +49,7 @@ write sh st p x calm c a e q f w told in_n at_sec at_call pre1 pre2 h _ = record
   removed = λ c' a' e' is. grind (arith, nat_tests, (claims h).removed c' a' e', (objects h).held p c a e q in_n pre1, (calls h).calls p in_n, sections sh st h p in_n);
 }
 
--- kind 21
+-- kind MarkGone
 pub starts_remove : (sh : Layout) (st : S.State) (p : ℕ) (x : ℕ) (calm : Bool) (c : ℕ) (a : ℕ) (e : ℕ) (q : ℕ) (told : ℕ) → p < sh.passes → (st.stands p).section ≡ Inside x calm → (st.stands p).phase ≡ phase.Idle → held_slot (st.stands p).held (object a e c) ≡ Some q → Shut sh st → Nothing sh st
     → ClaimsAgree sh (did sh st p (Start (call.Remove (object a e c))) (Inside x calm) phase.Idle told (MarkGone c e))
 starts_remove sh st p x calm c a e q told in_n at_sec at_call pre1 h _ = record {
@@ -61,7 +61,7 @@ starts_remove sh st p x calm c a e q told in_n at_sec at_call pre1 h _ = record 
   removed = λ c' a' e' is. by_true (not (is_gone (state_in st.memory c e)) && (e' == e && c' == c)) (λ y. (p, in_n, grind (arith, nat_tests, (objects h).held p c a e q in_n pre1))) (λ n. let w : IsRemoved a' (state_in st.memory c' e') = grind (arith, nat_tests, (objects h).held p c a e q in_n pre1) in let (i, lt, is') = (claims h).removed c' a' e' w in (i, lt, grind (arith, nat_tests)));
 }
 
--- kind 22
+-- kind LeaveSlot
 pub leave_slot : (sh : Layout) (st : S.State) (p : ℕ) (x : ℕ) (calm : Bool) (c : ℕ) (a : ℕ) (e : ℕ) (q : ℕ) (told : ℕ) → p < sh.passes → (st.stands p).section ≡ Inside x calm → (st.stands p).phase ≡ phase.Remove (remove.LeaveSlot q (object a e c)) → Shut sh st → Nothing sh st
     → ClaimsAgree sh (did sh st p Go (Inside x calm) (phase.Remove (remove.LeaveSlot q (object a e c))) told (Store (place.Directory c q) (word.Directory (dir.Limbo (x + 1)))))
 leave_slot sh st p x calm c a e q told in_n at_sec at_call h _ = record {
@@ -73,7 +73,7 @@ leave_slot sh st p x calm c a e q told in_n at_sec at_call h _ = record {
   removed = λ c' a' e' is. grind (arith, nat_tests, (claims h).removed c' a' e', (calls h).c_removes p c a e in_n, (calls h).c_leaving p c q a e in_n, (calls h).c_limbos p c q a e in_n, (calls h).calls p in_n, sections sh st h p in_n);
 }
 
--- kind 23
+-- kind FreeEntry
 pub free_entry : (sh : Layout) (st : S.State) (p : ℕ) (x : ℕ) (calm : Bool) (c : ℕ) (a : ℕ) (e : ℕ) (told : ℕ) → p < sh.passes → (st.stands p).section ≡ Inside x calm → (st.stands p).phase ≡ phase.Remove (remove.FreeEntry (object a e c)) → Shut sh st → Nothing sh st
     → ClaimsAgree sh (did sh st p Go (Inside x calm) (phase.Remove (remove.FreeEntry (object a e c))) told (Store (place.Entry c e) (word.Entry (state.Free a (x + 1)))))
 free_entry sh st p x calm c a e told in_n at_sec at_call h _ = record {

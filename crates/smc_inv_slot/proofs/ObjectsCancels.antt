@@ -19,7 +19,7 @@ use Rattle.smc_agreement.specs.Kept.{Nothing}
 use Rattle.smc_agreement.specs.Agreement.{ObjectsAgree}
 use Rattle.smc_agreement.proofs.Whole.{Shut, calls, objects, moves, did, sections}
 
--- kind 10
+-- kind LoadDirectory
 pub starts_cancel : (sh : Layout) (st : S.State) (p : ℕ) (x : ℕ) (calm : Bool) (b : ℕ) (c : ℕ) (told : ℕ) → p < sh.passes → (st.stands p).section ≡ Inside x calm → (st.stands p).phase ≡ phase.Idle → (st.stands p).round ≡ Some (record { bound = b; coll = c }) → Shut sh st → Nothing sh st
     → ObjectsAgree sh (did sh st p (Start call.Cancel) (Inside x calm) phase.Idle told (Load (place.Directory c 0)))
 starts_cancel sh st p x calm b c told in_n at_sec at_call pre1 h _ = record {
@@ -31,7 +31,7 @@ starts_cancel sh st p x calm b c told in_n at_sec at_call pre1 h _ = record {
   stamp_entry = (objects h).stamp_entry;
 }
 
--- kind 10
+-- kind LoadDirectory
 pub cancel_dir : (sh : Layout) (st : S.State) (p : ℕ) (x : ℕ) (calm : Bool) (c : ℕ) (t : ℕ) (told : ℕ) → p < sh.passes → (st.stands p).section ≡ Inside x calm → (st.stands p).phase ≡ phase.Cancel (cancel.Directory c t) → Shut sh st → Nothing sh st
     → ObjectsAgree sh (did sh st p Go (Inside x calm) (phase.Cancel (cancel.Directory c t)) told (Load (place.Directory c t)))
 cancel_dir sh st p x calm c t told in_n at_sec at_call h _ = record {
@@ -43,7 +43,7 @@ cancel_dir sh st p x calm c t told in_n at_sec at_call h _ = record {
   stamp_entry = (objects h).stamp_entry;
 }
 
--- kind 24
+-- kind LoadBack
 pub cancel_back : (sh : Layout) (st : S.State) (p : ℕ) (x : ℕ) (calm : Bool) (c : ℕ) (t : ℕ) (told : ℕ) → p < sh.passes → (st.stands p).section ≡ Inside x calm → (st.stands p).phase ≡ phase.Cancel (cancel.Back c t) → Shut sh st → Nothing sh st
     → ObjectsAgree sh (did sh st p Go (Inside x calm) (phase.Cancel (cancel.Back c t)) told (Load (place.Back c t)))
 cancel_back sh st p x calm c t told in_n at_sec at_call h _ = record {
@@ -55,7 +55,7 @@ cancel_back sh st p x calm c t told in_n at_sec at_call h _ = record {
   stamp_entry = (objects h).stamp_entry;
 }
 
--- kind 13
+-- kind LoadEntry
 pub cancel_entry : (sh : Layout) (st : S.State) (p : ℕ) (x : ℕ) (calm : Bool) (c : ℕ) (t : ℕ) (a : ℕ) (e : ℕ) (told : ℕ) → p < sh.passes → (st.stands p).section ≡ Inside x calm → (st.stands p).phase ≡ phase.Cancel (cancel.Entry c t (object a e c)) → Shut sh st → Nothing sh st
     → ObjectsAgree sh (did sh st p Go (Inside x calm) (phase.Cancel (cancel.Entry c t (object a e c))) told (Load (place.Entry c e)))
 cancel_entry sh st p x calm c t a e told in_n at_sec at_call h _ = record {
@@ -67,7 +67,7 @@ cancel_entry sh st p x calm c t a e told in_n at_sec at_call h _ = record {
   stamp_entry = (objects h).stamp_entry;
 }
 
--- kind 30
+-- kind Unfreeze
 pub unfreeze : (sh : Layout) (st : S.State) (p : ℕ) (x : ℕ) (calm : Bool) (c : ℕ) (t : ℕ) (a : ℕ) (e : ℕ) (q : ℕ) (told : ℕ) → p < sh.passes → (st.stands p).section ≡ Inside x calm → (st.stands p).phase ≡ phase.Cancel (cancel.Unfreeze c t (object a e c) q) → Shut sh st → Nothing sh st
     → ObjectsAgree sh (did sh st p Go (Inside x calm) (phase.Cancel (cancel.Unfreeze c t (object a e c) q)) told (Exchange (place.Entry c e) (word.Entry (state.Frozen a q)) (word.Entry (state.Present a q))))
 unfreeze sh st p x calm c t a e q told in_n at_sec at_call h _ = record {
@@ -79,7 +79,7 @@ unfreeze sh st p x calm c t a e q told in_n at_sec at_call h _ = record {
   stamp_entry = λ c' e' a' z' is. grind (arith, nat_tests, (objects h).stamp_entry c' e' a' z', (calls h).c_named p c t a e in_n, (calls h).c_target p c t in_n, (calls h).c_tries p c q a e in_n, (calls h).calls p in_n, sections sh st h p in_n);
 }
 
--- kind 22
+-- kind LeaveSlot
 pub cancel_gives : (sh : Layout) (st : S.State) (p : ℕ) (x : ℕ) (calm : Bool) (c : ℕ) (t : ℕ) (told : ℕ) → p < sh.passes → (st.stands p).section ≡ Inside x calm → (st.stands p).phase ≡ phase.Cancel (cancel.GiveUp c t) → Shut sh st → Nothing sh st
     → ObjectsAgree sh (did sh st p Go (Inside x calm) (phase.Cancel (cancel.GiveUp c t)) told (Store (place.Directory c t) (word.Directory (dir.Limbo (x + 1)))))
 cancel_gives sh st p x calm c t told in_n at_sec at_call h _ = record {
@@ -91,7 +91,7 @@ cancel_gives sh st p x calm c t told in_n at_sec at_call h _ = record {
   stamp_entry = (objects h).stamp_entry;
 }
 
--- kind 36
+-- kind CloseRound
 pub cancel_ends : (sh : Layout) (st : S.State) (p : ℕ) (x : ℕ) (calm : Bool) (told : ℕ) → p < sh.passes → (st.stands p).section ≡ Inside x calm → (st.stands p).phase ≡ phase.Cancel cancel.End → Shut sh st → Nothing sh st
     → ObjectsAgree sh (did sh st p Go (Inside x calm) (phase.Cancel cancel.End) told (Store place.Round (word.Round None)))
 cancel_ends sh st p x calm told in_n at_sec at_call h _ = record {

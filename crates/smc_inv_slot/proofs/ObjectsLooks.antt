@@ -24,7 +24,7 @@ use Rattle.smc_agreement.specs.Agreement.{ObjectsAgree}
 use Rattle.smc_agreement.proofs.Whole.{Shut, calls, objects, did, sections}
 use Rattle.smc_agreement.proofs.CrossLaws.{by_eq, load_holds, start_holds, hold_free, calm_unlocked}
 
--- kind 25
+-- kind LookUp
 pub starts_look : (sh : Layout) (st : S.State) (p : ℕ) (x : ℕ) (calm : Bool) (c : ℕ) (a : ℕ) (e : ℕ) (told : ℕ) → p < sh.passes → (st.stands p).section ≡ Inside x calm → (st.stands p).phase ≡ phase.Idle → has_place sh (place.Entry c e) ≡ true → Shut sh st → Nothing sh st
     → ObjectsAgree sh (did sh st p (Start (call.Look (object a e c))) (Inside x calm) phase.Idle told (Load (place.Entry c e)))
 starts_look sh st p x calm c a e told in_n at_sec at_call pre1 h _ = record {
@@ -36,7 +36,7 @@ starts_look sh st p x calm c a e told in_n at_sec at_call pre1 h _ = record {
   stamp_entry = (objects h).stamp_entry;
 }
 
--- kind 8
+-- kind LoadSection
 pub look_out : (sh : Layout) (st : S.State) (p : ℕ) (x : ℕ) (calm : Bool) (c : ℕ) (a : ℕ) (e : ℕ) (told : ℕ) → p < sh.passes → (st.stands p).section ≡ Inside x calm → (st.stands p).phase ≡ phase.Idle → has_place sh (place.Entry c e) ≡ false → Shut sh st → Nothing sh st
     → ObjectsAgree sh (did sh st p (Start (call.Look (object a e c))) (Inside x calm) phase.Idle told (Load (place.Section p)))
 look_out sh st p x calm c a e told in_n at_sec at_call pre1 h _ = record {
@@ -48,7 +48,7 @@ look_out sh st p x calm c a e told in_n at_sec at_call pre1 h _ = record {
   stamp_entry = (objects h).stamp_entry;
 }
 
--- kind 25
+-- kind LookUp
 pub look_load : (sh : Layout) (st : S.State) (p : ℕ) (x : ℕ) (calm : Bool) (who : Seeker) (c : ℕ) (a : ℕ) (e : ℕ) (told : ℕ) → p < sh.passes → (st.stands p).section ≡ Inside x calm → (st.stands p).phase ≡ phase.Look (look.Load who (object a e c)) → Shut sh st → Nothing sh st
     → ObjectsAgree sh (did sh st p Go (Inside x calm) (phase.Look (look.Load who (object a e c))) told (Load (place.Entry c e)))
 look_load sh st p x calm who c a e told in_n at_sec at_call h _ = record {
@@ -60,7 +60,7 @@ look_load sh st p x calm who c a e told in_n at_sec at_call h _ = record {
   stamp_entry = (objects h).stamp_entry;
 }
 
--- kind 30
+-- kind Unfreeze
 pub abandon : (sh : Layout) (st : S.State) (p : ℕ) (x : ℕ) (calm : Bool) (who : Seeker) (c : ℕ) (a : ℕ) (e : ℕ) (q : ℕ) (told : ℕ) → p < sh.passes → (st.stands p).section ≡ Inside x calm → (st.stands p).phase ≡ phase.Look (look.Abandon who (object a e c) q) → Shut sh st → Nothing sh st
     → ObjectsAgree sh (did sh st p Go (Inside x calm) (phase.Look (look.Abandon who (object a e c) q)) told (Exchange (place.Entry c e) (word.Entry (state.Frozen a q)) (word.Entry (state.Present a q))))
 abandon sh st p x calm who c a e q told in_n at_sec at_call h _ = record {

@@ -27,7 +27,7 @@ use Rattle.smc_agreement.specs.Agreement.{ObjectsAgree}
 use Rattle.smc_agreement.proofs.Whole.{Shut, calls, objects, moves, did, sections}
 use Rattle.smc_agreement.proofs.CrossLaws.{by_eq, by_true, below, not_claimed, ripe_target, claim_holds, held_unripe}
 
--- kind 10
+-- kind LoadDirectory
 pub target_dir : (sh : Layout) (st : S.State) (p : ℕ) (x : ℕ) (calm : Bool) (m : Walk) (a : ℕ) (e : ℕ) (told : ℕ) → p < sh.passes → (st.stands p).section ≡ Inside x calm → (st.stands p).phase ≡ phase.Begin (begin.TargetDirectory m (object a e m.coll)) → Shut sh st → Nothing sh st
     → ObjectsAgree sh (did sh st p Go (Inside x calm) (phase.Begin (begin.TargetDirectory m (object a e m.coll))) told (Load (place.Directory m.coll m.target)))
 target_dir sh st p x calm m a e told in_n at_sec at_call h _ = record {
@@ -39,7 +39,7 @@ target_dir sh st p x calm m a e told in_n at_sec at_call h _ = record {
   stamp_entry = (objects h).stamp_entry;
 }
 
--- kind 11
+-- kind ClaimSlot
 pub claim_target : (sh : Layout) (st : S.State) (p : ℕ) (x : ℕ) (calm : Bool) (m : Walk) (a : ℕ) (e : ℕ) (d : Dir) (told : ℕ) → p < sh.passes → (st.stands p).section ≡ Inside x calm → (st.stands p).phase ≡ phase.Begin (begin.ClaimTarget m (object a e m.coll) d) → Shut sh st → Nothing sh st
     → ObjectsAgree sh (did sh st p Go (Inside x calm) (phase.Begin (begin.ClaimTarget m (object a e m.coll) d)) told (Exchange (place.Directory m.coll m.target) (word.Directory d) (word.Directory dir.Claimed)))
 claim_target sh st p x calm m a e d told in_n at_sec at_call h _ = record {
@@ -51,7 +51,7 @@ claim_target sh st p x calm m a e d told in_n at_sec at_call h _ = record {
   stamp_entry = (objects h).stamp_entry;
 }
 
--- kind 16
+-- kind StoreField
 pub blank_field : (sh : Layout) (st : S.State) (p : ℕ) (x : ℕ) (calm : Bool) (m : Walk) (a : ℕ) (e : ℕ) (f : ℕ) (told : ℕ) → p < sh.passes → (st.stands p).section ≡ Inside x calm → (st.stands p).phase ≡ phase.Begin (begin.BlankField m (object a e m.coll) f) → Shut sh st → Nothing sh st
     → ObjectsAgree sh (did sh st p Go (Inside x calm) (phase.Begin (begin.BlankField m (object a e m.coll) f)) told (Store (place.Field m.coll m.target f) (word.Plain BLANK)))
 blank_field sh st p x calm m a e f told in_n at_sec at_call h _ = record {
@@ -63,7 +63,7 @@ blank_field sh st p x calm m a e f told in_n at_sec at_call h _ = record {
   stamp_entry = (objects h).stamp_entry;
 }
 
--- kind 15
+-- kind StoreBack
 pub name_target : (sh : Layout) (st : S.State) (p : ℕ) (x : ℕ) (calm : Bool) (m : Walk) (a : ℕ) (e : ℕ) (told : ℕ) → p < sh.passes → (st.stands p).section ≡ Inside x calm → (st.stands p).phase ≡ phase.Begin (begin.StoreBack m (object a e m.coll)) → Shut sh st → Nothing sh st
     → ObjectsAgree sh (did sh st p Go (Inside x calm) (phase.Begin (begin.StoreBack m (object a e m.coll))) told (Store (place.Back m.coll m.target) (word.Back (Some (object a e m.coll)))))
 name_target sh st p x calm m a e told in_n at_sec at_call h _ = record {
@@ -75,7 +75,7 @@ name_target sh st p x calm m a e told in_n at_sec at_call h _ = record {
   stamp_entry = (objects h).stamp_entry;
 }
 
--- kind 27
+-- kind StoreForward
 pub lead_source : (sh : Layout) (st : S.State) (p : ℕ) (x : ℕ) (calm : Bool) (m : Walk) (a : ℕ) (e : ℕ) (told : ℕ) → p < sh.passes → (st.stands p).section ≡ Inside x calm → (st.stands p).phase ≡ phase.Begin (begin.StoreForward m (object a e m.coll)) → Shut sh st → Nothing sh st
     → ObjectsAgree sh (did sh st p Go (Inside x calm) (phase.Begin (begin.StoreForward m (object a e m.coll))) told (Store (place.Forward m.coll m.source) (word.Forward m.target)))
 lead_source sh st p x calm m a e told in_n at_sec at_call h _ = record {
@@ -87,7 +87,7 @@ lead_source sh st p x calm m a e told in_n at_sec at_call h _ = record {
   stamp_entry = (objects h).stamp_entry;
 }
 
--- kind 28
+-- kind StoreIncoming
 pub store_incoming : (sh : Layout) (st : S.State) (p : ℕ) (x : ℕ) (calm : Bool) (m : Walk) (a : ℕ) (e : ℕ) (told : ℕ) → p < sh.passes → (st.stands p).section ≡ Inside x calm → (st.stands p).phase ≡ phase.Begin (begin.StoreIncoming m (object a e m.coll)) → Shut sh st → Nothing sh st
     → ObjectsAgree sh (did sh st p Go (Inside x calm) (phase.Begin (begin.StoreIncoming m (object a e m.coll))) told (Store (place.Directory m.coll m.target) (word.Directory dir.Incoming)))
 store_incoming sh st p x calm m a e told in_n at_sec at_call h _ = record {
@@ -99,7 +99,7 @@ store_incoming sh st p x calm m a e told in_n at_sec at_call h _ = record {
   stamp_entry = (objects h).stamp_entry;
 }
 
--- kind 29
+-- kind Freeze
 pub freeze : (sh : Layout) (st : S.State) (p : ℕ) (x : ℕ) (calm : Bool) (m : Walk) (a : ℕ) (e : ℕ) (told : ℕ) → p < sh.passes → (st.stands p).section ≡ Inside x calm → (st.stands p).phase ≡ phase.Begin (begin.Freeze m (object a e m.coll)) → Shut sh st → Nothing sh st
     → ObjectsAgree sh (did sh st p Go (Inside x calm) (phase.Begin (begin.Freeze m (object a e m.coll))) told (Exchange (place.Entry m.coll e) (word.Entry (state.Present a m.source)) (word.Entry (state.Frozen a m.source))))
 freeze sh st p x calm m a e told in_n at_sec at_call h _ = record {
@@ -111,7 +111,7 @@ freeze sh st p x calm m a e told in_n at_sec at_call h _ = record {
   stamp_entry = λ c' e' a' z' is. grind (arith, nat_tests, (objects h).stamp_entry c' e' a' z', (calls h).c_named p m.coll m.target a e in_n, (calls h).c_target p m.coll m.target in_n, (calls h).c_leads p m.coll m.source m.target in_n, (calls h).c_origin p m.coll m.source a e in_n, (calls h).c_source p m.coll m.source a e in_n, (calls h).c_resting p m.coll m.source a e in_n, below sh st h p in_n (begin.Freeze m (object a e m.coll)) at_call, (calls h).calls p in_n, sections sh st h p in_n);
 }
 
--- kind 22
+-- kind LeaveSlot
 pub begin_gives : (sh : Layout) (st : S.State) (p : ℕ) (x : ℕ) (calm : Bool) (m : Walk) (told : ℕ) → p < sh.passes → (st.stands p).section ≡ Inside x calm → (st.stands p).phase ≡ phase.Begin (begin.GiveUp m) → Shut sh st → Nothing sh st
     → ObjectsAgree sh (did sh st p Go (Inside x calm) (phase.Begin (begin.GiveUp m)) told (Store (place.Directory m.coll m.target) (word.Directory (dir.Limbo (x + 1)))))
 begin_gives sh st p x calm m told in_n at_sec at_call h _ = record {

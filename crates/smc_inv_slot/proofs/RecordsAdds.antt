@@ -25,7 +25,7 @@ use Rattle.smc_rules.specs.Memory.{apply, seen}
 use Rattle.smc_agreement.specs.Records.{RecordsAgree}
 use Rattle.smc_agreement.proofs.WorldViews.{in_world, added-view, get_value, get_index}
 
--- kind 10
+-- kind LoadDirectory
 pub starts_add : (opened : ℕ) (sh : Layout) (st : S.State) (p : ℕ) (x : ℕ) (calm : Bool) (c : ℕ) (k : ℕ) (ws : List ℕ) (told : ℕ) → p < sh.passes → (st.stands p).section ≡ Inside x calm → (st.stands p).phase ≡ phase.Idle → takes sh c k ws ≡ true → Shut sh st → RecordsAgree opened sh st
     → RecordsAgree opened sh (did sh st p (Start (call.Add c k ws)) (Inside x calm) phase.Idle told (Load (place.Directory c k)))
 starts_add opened sh st p x calm c k ws told in_n at_sec at_call pre1 h r = in_world (RecordsAgree opened sh) (apply (Load (place.Directory c k)) st.memory) (put_stand st.stands p (moved sh p (st.stands p) (Inside x calm) phase.Idle (Start (call.Add c k ws)) told (seen (Load (place.Directory c k)) st.memory))) st.world
@@ -49,7 +49,7 @@ starts_add opened sh st p x calm c k ws told in_n at_sec at_call pre1 h r = in_w
       j_fields = λ i c' a' e' s' k' n' li is lt. grind (arith, nat_tests, r.j_fields i c' a' e' s' k' n' li, (calls h).calls p in_n, sections sh st h p in_n);
     })
 
--- kind 10
+-- kind LoadDirectory
 pub find_slot : (opened : ℕ) (sh : Layout) (st : S.State) (p : ℕ) (x : ℕ) (calm : Bool) (c : ℕ) (k : ℕ) (s : ℕ) (t : ℕ) (told : ℕ) → p < sh.passes → (st.stands p).section ≡ Inside x calm → (st.stands p).phase ≡ phase.Add (add.FindSlot c k s t) → Shut sh st → RecordsAgree opened sh st
     → RecordsAgree opened sh (did sh st p Go (Inside x calm) (phase.Add (add.FindSlot c k s t)) told (Load (place.Directory c s)))
 find_slot opened sh st p x calm c k s t told in_n at_sec at_call h r = in_world (RecordsAgree opened sh) (apply (Load (place.Directory c s)) st.memory) (put_stand st.stands p (moved sh p (st.stands p) (Inside x calm) (phase.Add (add.FindSlot c k s t)) Go told (seen (Load (place.Directory c s)) st.memory))) st.world
@@ -73,7 +73,7 @@ find_slot opened sh st p x calm c k s t told in_n at_sec at_call h r = in_world 
       j_fields = λ i c' a' e' s' k' n' li is lt. grind (arith, nat_tests, r.j_fields i c' a' e' s' k' n' li, r.c_record p c in_n, r.c_values p c k' in_n, (calls h).calls p in_n, sections sh st h p in_n);
     })
 
--- kind 11
+-- kind ClaimSlot
 pub claim_slot : (opened : ℕ) (sh : Layout) (st : S.State) (p : ℕ) (x : ℕ) (calm : Bool) (c : ℕ) (k : ℕ) (s : ℕ) (t : ℕ) (d : Dir) (told : ℕ) → p < sh.passes → (st.stands p).section ≡ Inside x calm → (st.stands p).phase ≡ phase.Add (add.ClaimSlot c k s t d) → Shut sh st → RecordsAgree opened sh st
     → RecordsAgree opened sh (did sh st p Go (Inside x calm) (phase.Add (add.ClaimSlot c k s t d)) told (Exchange (place.Directory c s) (word.Directory d) (word.Directory dir.Claimed)))
 claim_slot opened sh st p x calm c k s t d told in_n at_sec at_call h r = in_world (RecordsAgree opened sh) (apply (Exchange (place.Directory c s) (word.Directory d) (word.Directory dir.Claimed)) st.memory) (put_stand st.stands p (moved sh p (st.stands p) (Inside x calm) (phase.Add (add.ClaimSlot c k s t d)) Go told (seen (Exchange (place.Directory c s) (word.Directory d) (word.Directory dir.Claimed)) st.memory))) st.world
@@ -97,7 +97,7 @@ claim_slot opened sh st p x calm c k s t d told in_n at_sec at_call h r = in_wor
       j_fields = λ i c' a' e' s' k' n' li is lt. grind (arith, nat_tests, r.j_fields i c' a' e' s' k' n' li, r.c_record p c in_n, r.c_values p c k' in_n, (calls h).calls p in_n, sections sh st h p in_n);
     })
 
--- kind 13
+-- kind LoadEntry
 pub find_entry : (opened : ℕ) (sh : Layout) (st : S.State) (p : ℕ) (x : ℕ) (calm : Bool) (c : ℕ) (s : ℕ) (e : ℕ) (t : ℕ) (told : ℕ) → p < sh.passes → (st.stands p).section ≡ Inside x calm → (st.stands p).phase ≡ phase.Add (add.FindEntry c s e t) → Shut sh st → RecordsAgree opened sh st
     → RecordsAgree opened sh (did sh st p Go (Inside x calm) (phase.Add (add.FindEntry c s e t)) told (Load (place.Entry c e)))
 find_entry opened sh st p x calm c s e t told in_n at_sec at_call h r = in_world (RecordsAgree opened sh) (apply (Load (place.Entry c e)) st.memory) (put_stand st.stands p (moved sh p (st.stands p) (Inside x calm) (phase.Add (add.FindEntry c s e t)) Go told (seen (Load (place.Entry c e)) st.memory))) st.world
@@ -121,7 +121,7 @@ find_entry opened sh st p x calm c s e t told in_n at_sec at_call h r = in_world
       j_fields = λ i c' a' e' s' k' n' li is lt. grind (arith, nat_tests, r.j_fields i c' a' e' s' k' n' li, (calls h).c_slot p c s in_n, r.c_record p c in_n, r.c_values p c k' in_n, (calls h).calls p in_n, sections sh st h p in_n);
     })
 
--- kind 14
+-- kind ClaimEntry
 pub claim_entry : (opened : ℕ) (sh : Layout) (st : S.State) (p : ℕ) (x : ℕ) (calm : Bool) (c : ℕ) (s : ℕ) (e : ℕ) (t : ℕ) (a : ℕ) (z : ℕ) (told : ℕ) → p < sh.passes → (st.stands p).section ≡ Inside x calm → (st.stands p).phase ≡ phase.Add (add.ClaimEntry c s e t a z) → Shut sh st → RecordsAgree opened sh st
     → RecordsAgree opened sh (did sh st p Go (Inside x calm) (phase.Add (add.ClaimEntry c s e t a z)) told (Exchange (place.Entry c e) (word.Entry (state.Free a z)) (word.Entry (state.Claimed (a + 1)))))
 claim_entry opened sh st p x calm c s e t a z told in_n at_sec at_call h r = in_world (RecordsAgree opened sh) (apply (Exchange (place.Entry c e) (word.Entry (state.Free a z)) (word.Entry (state.Claimed (a + 1)))) st.memory) (put_stand st.stands p (moved sh p (st.stands p) (Inside x calm) (phase.Add (add.ClaimEntry c s e t a z)) Go told (seen (Exchange (place.Entry c e) (word.Entry (state.Free a z)) (word.Entry (state.Claimed (a + 1)))) st.memory))) st.world
@@ -145,7 +145,7 @@ claim_entry opened sh st p x calm c s e t a z told in_n at_sec at_call h r = in_
       j_fields = λ i c' a' e' s' k' n' li is lt. grind (arith, nat_tests, r.j_fields i c' a' e' s' k' n' li, (calls h).c_slot p c s in_n, r.c_record p c in_n, r.c_values p c k' in_n, (calls h).calls p in_n, sections sh st h p in_n);
     })
 
--- kind 12
+-- kind DropSlot
 pub drop_slot : (opened : ℕ) (sh : Layout) (st : S.State) (p : ℕ) (x : ℕ) (calm : Bool) (c : ℕ) (s : ℕ) (told : ℕ) → p < sh.passes → (st.stands p).section ≡ Inside x calm → (st.stands p).phase ≡ phase.Add (add.DropSlot c s) → Shut sh st → RecordsAgree opened sh st
     → RecordsAgree opened sh (did sh st p Go (Inside x calm) (phase.Add (add.DropSlot c s)) told (Store (place.Directory c s) (word.Directory dir.Free)))
 drop_slot opened sh st p x calm c s told in_n at_sec at_call h r = in_world (RecordsAgree opened sh) (apply (Store (place.Directory c s) (word.Directory dir.Free)) st.memory) (put_stand st.stands p (moved sh p (st.stands p) (Inside x calm) (phase.Add (add.DropSlot c s)) Go told (seen (Store (place.Directory c s) (word.Directory dir.Free)) st.memory))) st.world
@@ -169,7 +169,7 @@ drop_slot opened sh st p x calm c s told in_n at_sec at_call h r = in_world (Rec
       j_fields = λ i c' a' e' s' k' n' li is lt. grind (arith, nat_tests, r.j_fields i c' a' e' s' k' n' li, (calls h).c_slot p c s in_n, (calls h).calls p in_n, sections sh st h p in_n);
     })
 
--- kind 15
+-- kind StoreBack
 pub store_back : (opened : ℕ) (sh : Layout) (st : S.State) (p : ℕ) (x : ℕ) (calm : Bool) (c : ℕ) (s : ℕ) (a : ℕ) (e : ℕ) (told : ℕ) → p < sh.passes → (st.stands p).section ≡ Inside x calm → (st.stands p).phase ≡ phase.Add (add.StoreBack s (object a e c)) → Shut sh st → RecordsAgree opened sh st
     → RecordsAgree opened sh (did sh st p Go (Inside x calm) (phase.Add (add.StoreBack s (object a e c))) told (Store (place.Back c s) (word.Back (Some (object a e c)))))
 store_back opened sh st p x calm c s a e told in_n at_sec at_call h r = in_world (RecordsAgree opened sh) (apply (Store (place.Back c s) (word.Back (Some (object a e c)))) st.memory) (put_stand st.stands p (moved sh p (st.stands p) (Inside x calm) (phase.Add (add.StoreBack s (object a e c))) Go told (seen (Store (place.Back c s) (word.Back (Some (object a e c)))) st.memory))) st.world
@@ -193,7 +193,7 @@ store_back opened sh st p x calm c s a e told in_n at_sec at_call h r = in_world
       j_fields = λ i c' a' e' s' k' n' li is lt. grind (arith, nat_tests, r.j_fields i c' a' e' s' k' n' li, (calls h).c_slot p c s in_n, (calls h).c_entry p c a e in_n, r.c_record p c in_n, r.c_values p c k' in_n, (calls h).calls p in_n, sections sh st h p in_n);
     })
 
--- kind 16
+-- kind StoreField
 pub store_field : (opened : ℕ) (sh : Layout) (st : S.State) (p : ℕ) (x : ℕ) (calm : Bool) (c : ℕ) (s : ℕ) (a : ℕ) (e : ℕ) (f : ℕ) (told : ℕ) → p < sh.passes → (st.stands p).section ≡ Inside x calm → (st.stands p).phase ≡ phase.Add (add.StoreField s (object a e c) f) → Shut sh st → RecordsAgree opened sh st
     → RecordsAgree opened sh (did sh st p Go (Inside x calm) (phase.Add (add.StoreField s (object a e c) f)) told (Store (place.Field c s f) (word.Plain (slice_index (st.stands p).words f))))
 store_field opened sh st p x calm c s a e f told in_n at_sec at_call h r = in_world (RecordsAgree opened sh) (apply (Store (place.Field c s f) (word.Plain (slice_index (st.stands p).words f))) st.memory) (put_stand st.stands p (moved sh p (st.stands p) (Inside x calm) (phase.Add (add.StoreField s (object a e c) f)) Go told (seen (Store (place.Field c s f) (word.Plain (slice_index (st.stands p).words f))) st.memory))) st.world
@@ -217,7 +217,7 @@ store_field opened sh st p x calm c s a e f told in_n at_sec at_call h r = in_wo
       j_fields = λ i c' a' e' s' k' n' li is lt. grind (arith, nat_tests, r.j_fields i c' a' e' s' k' n' li, (calls h).c_slot p c s in_n, (calls h).c_entry p c a e in_n, (calls h).c_named p c s a e in_n, r.c_record p c in_n, r.c_values p c k' in_n, r.c_stored p c s a e f k' in_n, (calls h).calls p in_n, sections sh st h p in_n, (copies h).j_for i c' a' e' s' n' li);
     })
 
--- kind 17
+-- kind StoreValid
 pub store_valid : (opened : ℕ) (sh : Layout) (st : S.State) (p : ℕ) (x : ℕ) (calm : Bool) (c : ℕ) (s : ℕ) (a : ℕ) (e : ℕ) (told : ℕ) → p < sh.passes → (st.stands p).section ≡ Inside x calm → (st.stands p).phase ≡ phase.Add (add.StoreValid s (object a e c)) → Shut sh st → RecordsAgree opened sh st
     → RecordsAgree opened sh (did sh st p Go (Inside x calm) (phase.Add (add.StoreValid s (object a e c))) told (Store (place.Directory c s) (word.Directory dir.Valid)))
 store_valid opened sh st p x calm c s a e told in_n at_sec at_call h r = in_world (RecordsAgree opened sh) (apply (Store (place.Directory c s) (word.Directory dir.Valid)) st.memory) (put_stand st.stands p (moved sh p (st.stands p) (Inside x calm) (phase.Add (add.StoreValid s (object a e c))) Go told (seen (Store (place.Directory c s) (word.Directory dir.Valid)) st.memory))) st.world
@@ -241,7 +241,7 @@ store_valid opened sh st p x calm c s a e told in_n at_sec at_call h r = in_worl
       j_fields = λ i c' a' e' s' k' n' li is lt. grind (arith, nat_tests, r.j_fields i c' a' e' s' k' n' li, (calls h).c_slot p c s in_n, (calls h).c_entry p c a e in_n, (calls h).c_named p c s a e in_n, r.c_record p c in_n, r.c_values p c k' in_n, r.c_stored p c s a e (width_of sh c) k' in_n, (calls h).calls p in_n, sections sh st h p in_n);
     })
 
--- kind 18
+-- kind StoreLive
 pub store_live : (opened : ℕ) (sh : Layout) (st : S.State) (p : ℕ) (x : ℕ) (calm : Bool) (c : ℕ) (s : ℕ) (a : ℕ) (e : ℕ) (told : ℕ) → p < sh.passes → (st.stands p).section ≡ Inside x calm → (st.stands p).phase ≡ phase.Add (add.StoreLive s (object a e c)) → Shut sh st → RecordsAgree opened sh st
     → RecordsAgree opened sh (did sh st p Go (Inside x calm) (phase.Add (add.StoreLive s (object a e c))) told (Store (place.Entry c e) (word.Entry (state.Present a s))))
 store_live opened sh st p x calm c s a e told in_n at_sec at_call h r = record {

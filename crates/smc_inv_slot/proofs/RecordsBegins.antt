@@ -23,7 +23,7 @@ use Rattle.smc_rules.specs.Memory.{apply, seen}
 use Rattle.smc_agreement.specs.Records.{RecordsAgree}
 use Rattle.smc_agreement.proofs.WorldViews.{in_world}
 
--- kind 26
+-- kind OpenRound
 pub starts_begin : (opened : ℕ) (sh : Layout) (st : S.State) (p : ℕ) (x : ℕ) (calm : Bool) (c : ℕ) (told : ℕ) → p < sh.passes → (st.stands p).section ≡ Inside x calm → (st.stands p).phase ≡ phase.Idle → Shut sh st → RecordsAgree opened sh st
     → RecordsAgree opened sh (did sh st p (Start (call.Begin c)) (Inside x calm) phase.Idle told (Exchange place.Round (word.Round None) (word.Round (Some (record { bound = x + 1; pass = p; coll = c })))))
 starts_begin opened sh st p x calm c told in_n at_sec at_call h r = in_world (RecordsAgree opened sh) (apply (Exchange place.Round (word.Round None) (word.Round (Some (record { bound = x + 1; pass = p; coll = c })))) st.memory) (put_stand st.stands p (moved sh p (st.stands p) (Inside x calm) phase.Idle (Start (call.Begin c)) told (seen (Exchange place.Round (word.Round None) (word.Round (Some (record { bound = x + 1; pass = p; coll = c })))) st.memory))) st.world
@@ -47,7 +47,7 @@ starts_begin opened sh st p x calm c told in_n at_sec at_call h r = in_world (Re
       j_fields = λ i c' a' e' s' k' n' li is lt. grind (arith, nat_tests, r.j_fields i c' a' e' s' k' n' li, (calls h).calls p in_n, sections sh st h p in_n);
     })
 
--- kind 10
+-- kind LoadDirectory
 pub count_dir : (opened : ℕ) (sh : Layout) (st : S.State) (p : ℕ) (x : ℕ) (calm : Bool) (c : ℕ) (t : ℕ) (cnt : Count) (told : ℕ) → p < sh.passes → (st.stands p).section ≡ Inside x calm → (st.stands p).phase ≡ phase.Begin (begin.Count (walk.Directory c t cnt)) → Shut sh st → RecordsAgree opened sh st
     → RecordsAgree opened sh (did sh st p Go (Inside x calm) (phase.Begin (begin.Count (walk.Directory c t cnt))) told (Load (place.Directory c t)))
 count_dir opened sh st p x calm c t cnt told in_n at_sec at_call h r = in_world (RecordsAgree opened sh) (apply (Load (place.Directory c t)) st.memory) (put_stand st.stands p (moved sh p (st.stands p) (Inside x calm) (phase.Begin (begin.Count (walk.Directory c t cnt))) Go told (seen (Load (place.Directory c t)) st.memory))) st.world
@@ -71,7 +71,7 @@ count_dir opened sh st p x calm c t cnt told in_n at_sec at_call h r = in_world 
       j_fields = λ i c' a' e' s' k' n' li is lt. grind (arith, nat_tests, r.j_fields i c' a' e' s' k' n' li, (calls h).calls p in_n, sections sh st h p in_n);
     })
 
--- kind 24
+-- kind LoadBack
 pub count_back : (opened : ℕ) (sh : Layout) (st : S.State) (p : ℕ) (x : ℕ) (calm : Bool) (c : ℕ) (t : ℕ) (cnt : Count) (told : ℕ) → p < sh.passes → (st.stands p).section ≡ Inside x calm → (st.stands p).phase ≡ phase.Begin (begin.Count (walk.Back c t cnt)) → Shut sh st → RecordsAgree opened sh st
     → RecordsAgree opened sh (did sh st p Go (Inside x calm) (phase.Begin (begin.Count (walk.Back c t cnt))) told (Load (place.Back c t)))
 count_back opened sh st p x calm c t cnt told in_n at_sec at_call h r = in_world (RecordsAgree opened sh) (apply (Load (place.Back c t)) st.memory) (put_stand st.stands p (moved sh p (st.stands p) (Inside x calm) (phase.Begin (begin.Count (walk.Back c t cnt))) Go told (seen (Load (place.Back c t)) st.memory))) st.world
@@ -95,7 +95,7 @@ count_back opened sh st p x calm c t cnt told in_n at_sec at_call h r = in_world
       j_fields = λ i c' a' e' s' k' n' li is lt. grind (arith, nat_tests, r.j_fields i c' a' e' s' k' n' li, (calls h).calls p in_n, sections sh st h p in_n);
     })
 
--- kind 13
+-- kind LoadEntry
 pub count_entry : (opened : ℕ) (sh : Layout) (st : S.State) (p : ℕ) (x : ℕ) (calm : Bool) (c : ℕ) (t : ℕ) (cnt : Count) (c2 : ℕ) (a : ℕ) (e : ℕ) (told : ℕ) → p < sh.passes → (st.stands p).section ≡ Inside x calm → (st.stands p).phase ≡ phase.Begin (begin.Count (walk.Entry c t cnt (object a e c2))) → Shut sh st → RecordsAgree opened sh st
     → RecordsAgree opened sh (did sh st p Go (Inside x calm) (phase.Begin (begin.Count (walk.Entry c t cnt (object a e c2)))) told (Load (place.Entry c2 e)))
 count_entry opened sh st p x calm c t cnt c2 a e told in_n at_sec at_call h r = in_world (RecordsAgree opened sh) (apply (Load (place.Entry c2 e)) st.memory) (put_stand st.stands p (moved sh p (st.stands p) (Inside x calm) (phase.Begin (begin.Count (walk.Entry c t cnt (object a e c2)))) Go told (seen (Load (place.Entry c2 e)) st.memory))) st.world
@@ -119,7 +119,7 @@ count_entry opened sh st p x calm c t cnt c2 a e told in_n at_sec at_call h r = 
       j_fields = λ i c' a' e' s' k' n' li is lt. grind (arith, nat_tests, r.j_fields i c' a' e' s' k' n' li, (calls h).calls p in_n, sections sh st h p in_n);
     })
 
--- kind 36
+-- kind CloseRound
 pub nothing : (opened : ℕ) (sh : Layout) (st : S.State) (p : ℕ) (x : ℕ) (calm : Bool) (c : ℕ) (told : ℕ) → p < sh.passes → (st.stands p).section ≡ Inside x calm → (st.stands p).phase ≡ phase.Begin (begin.Nothing c) → Shut sh st → RecordsAgree opened sh st
     → RecordsAgree opened sh (did sh st p Go (Inside x calm) (phase.Begin (begin.Nothing c)) told (Store place.Round (word.Round None)))
 nothing opened sh st p x calm c told in_n at_sec at_call h r = in_world (RecordsAgree opened sh) (apply (Store place.Round (word.Round None)) st.memory) (put_stand st.stands p (moved sh p (st.stands p) (Inside x calm) (phase.Begin (begin.Nothing c)) Go told (seen (Store place.Round (word.Round None)) st.memory))) st.world
@@ -143,7 +143,7 @@ nothing opened sh st p x calm c told in_n at_sec at_call h r = in_world (Records
       j_fields = λ i c' a' e' s' k' n' li is lt. grind (arith, nat_tests, r.j_fields i c' a' e' s' k' n' li, (calls h).calls p in_n, sections sh st h p in_n);
     })
 
--- kind 10
+-- kind LoadDirectory
 pub source_dir : (opened : ℕ) (sh : Layout) (st : S.State) (p : ℕ) (x : ℕ) (calm : Bool) (m : Walk) (told : ℕ) → p < sh.passes → (st.stands p).section ≡ Inside x calm → (st.stands p).phase ≡ phase.Begin (begin.SourceDirectory m) → Shut sh st → RecordsAgree opened sh st
     → RecordsAgree opened sh (did sh st p Go (Inside x calm) (phase.Begin (begin.SourceDirectory m)) told (Load (place.Directory m.coll m.source)))
 source_dir opened sh st p x calm m told in_n at_sec at_call h r = in_world (RecordsAgree opened sh) (apply (Load (place.Directory m.coll m.source)) st.memory) (put_stand st.stands p (moved sh p (st.stands p) (Inside x calm) (phase.Begin (begin.SourceDirectory m)) Go told (seen (Load (place.Directory m.coll m.source)) st.memory))) st.world
@@ -167,7 +167,7 @@ source_dir opened sh st p x calm m told in_n at_sec at_call h r = in_world (Reco
       j_fields = λ i c' a' e' s' k' n' li is lt. grind (arith, nat_tests, r.j_fields i c' a' e' s' k' n' li, below sh st h p in_n (begin.SourceDirectory m) at_call, (calls h).calls p in_n, sections sh st h p in_n);
     })
 
--- kind 24
+-- kind LoadBack
 pub source_back : (opened : ℕ) (sh : Layout) (st : S.State) (p : ℕ) (x : ℕ) (calm : Bool) (m : Walk) (told : ℕ) → p < sh.passes → (st.stands p).section ≡ Inside x calm → (st.stands p).phase ≡ phase.Begin (begin.SourceBack m) → Shut sh st → RecordsAgree opened sh st
     → RecordsAgree opened sh (did sh st p Go (Inside x calm) (phase.Begin (begin.SourceBack m)) told (Load (place.Back m.coll m.source)))
 source_back opened sh st p x calm m told in_n at_sec at_call h r = in_world (RecordsAgree opened sh) (apply (Load (place.Back m.coll m.source)) st.memory) (put_stand st.stands p (moved sh p (st.stands p) (Inside x calm) (phase.Begin (begin.SourceBack m)) Go told (seen (Load (place.Back m.coll m.source)) st.memory))) st.world
@@ -191,7 +191,7 @@ source_back opened sh st p x calm m told in_n at_sec at_call h r = in_world (Rec
       j_fields = λ i c' a' e' s' k' n' li is lt. grind (arith, nat_tests, r.j_fields i c' a' e' s' k' n' li, below sh st h p in_n (begin.SourceBack m) at_call, (calls h).calls p in_n, sections sh st h p in_n);
     })
 
--- kind 13
+-- kind LoadEntry
 pub source_entry : (opened : ℕ) (sh : Layout) (st : S.State) (p : ℕ) (x : ℕ) (calm : Bool) (m : Walk) (a : ℕ) (e : ℕ) (told : ℕ) → p < sh.passes → (st.stands p).section ≡ Inside x calm → (st.stands p).phase ≡ phase.Begin (begin.SourceEntry m (object a e m.coll)) → Shut sh st → RecordsAgree opened sh st
     → RecordsAgree opened sh (did sh st p Go (Inside x calm) (phase.Begin (begin.SourceEntry m (object a e m.coll))) told (Load (place.Entry m.coll e)))
 source_entry opened sh st p x calm m a e told in_n at_sec at_call h r = in_world (RecordsAgree opened sh) (apply (Load (place.Entry m.coll e)) st.memory) (put_stand st.stands p (moved sh p (st.stands p) (Inside x calm) (phase.Begin (begin.SourceEntry m (object a e m.coll))) Go told (seen (Load (place.Entry m.coll e)) st.memory))) st.world

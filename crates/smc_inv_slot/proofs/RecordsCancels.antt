@@ -21,7 +21,7 @@ use Rattle.smc_rules.specs.Memory.{apply, seen}
 use Rattle.smc_agreement.specs.Records.{RecordsAgree}
 use Rattle.smc_agreement.proofs.WorldViews.{in_world}
 
--- kind 10
+-- kind LoadDirectory
 pub starts_cancel : (opened : ℕ) (sh : Layout) (st : S.State) (p : ℕ) (x : ℕ) (calm : Bool) (b : ℕ) (c : ℕ) (told : ℕ) → p < sh.passes → (st.stands p).section ≡ Inside x calm → (st.stands p).phase ≡ phase.Idle → (st.stands p).round ≡ Some (record { bound = b; coll = c }) → Shut sh st → RecordsAgree opened sh st
     → RecordsAgree opened sh (did sh st p (Start call.Cancel) (Inside x calm) phase.Idle told (Load (place.Directory c 0)))
 starts_cancel opened sh st p x calm b c told in_n at_sec at_call pre1 h r = in_world (RecordsAgree opened sh) (apply (Load (place.Directory c 0)) st.memory) (put_stand st.stands p (moved sh p (st.stands p) (Inside x calm) phase.Idle (Start call.Cancel) told (seen (Load (place.Directory c 0)) st.memory))) st.world
@@ -45,7 +45,7 @@ starts_cancel opened sh st p x calm b c told in_n at_sec at_call pre1 h r = in_w
       j_fields = λ i c' a' e' s' k' n' li is lt. grind (arith, nat_tests, r.j_fields i c' a' e' s' k' n' li, (calls h).calls p in_n, sections sh st h p in_n);
     })
 
--- kind 10
+-- kind LoadDirectory
 pub cancel_dir : (opened : ℕ) (sh : Layout) (st : S.State) (p : ℕ) (x : ℕ) (calm : Bool) (c : ℕ) (t : ℕ) (told : ℕ) → p < sh.passes → (st.stands p).section ≡ Inside x calm → (st.stands p).phase ≡ phase.Cancel (cancel.Directory c t) → Shut sh st → RecordsAgree opened sh st
     → RecordsAgree opened sh (did sh st p Go (Inside x calm) (phase.Cancel (cancel.Directory c t)) told (Load (place.Directory c t)))
 cancel_dir opened sh st p x calm c t told in_n at_sec at_call h r = in_world (RecordsAgree opened sh) (apply (Load (place.Directory c t)) st.memory) (put_stand st.stands p (moved sh p (st.stands p) (Inside x calm) (phase.Cancel (cancel.Directory c t)) Go told (seen (Load (place.Directory c t)) st.memory))) st.world
@@ -69,7 +69,7 @@ cancel_dir opened sh st p x calm c t told in_n at_sec at_call h r = in_world (Re
       j_fields = λ i c' a' e' s' k' n' li is lt. grind (arith, nat_tests, r.j_fields i c' a' e' s' k' n' li, (calls h).calls p in_n, sections sh st h p in_n);
     })
 
--- kind 24
+-- kind LoadBack
 pub cancel_back : (opened : ℕ) (sh : Layout) (st : S.State) (p : ℕ) (x : ℕ) (calm : Bool) (c : ℕ) (t : ℕ) (told : ℕ) → p < sh.passes → (st.stands p).section ≡ Inside x calm → (st.stands p).phase ≡ phase.Cancel (cancel.Back c t) → Shut sh st → RecordsAgree opened sh st
     → RecordsAgree opened sh (did sh st p Go (Inside x calm) (phase.Cancel (cancel.Back c t)) told (Load (place.Back c t)))
 cancel_back opened sh st p x calm c t told in_n at_sec at_call h r = in_world (RecordsAgree opened sh) (apply (Load (place.Back c t)) st.memory) (put_stand st.stands p (moved sh p (st.stands p) (Inside x calm) (phase.Cancel (cancel.Back c t)) Go told (seen (Load (place.Back c t)) st.memory))) st.world
@@ -93,7 +93,7 @@ cancel_back opened sh st p x calm c t told in_n at_sec at_call h r = in_world (R
       j_fields = λ i c' a' e' s' k' n' li is lt. grind (arith, nat_tests, r.j_fields i c' a' e' s' k' n' li, (calls h).c_target p c t in_n, (calls h).calls p in_n, sections sh st h p in_n);
     })
 
--- kind 13
+-- kind LoadEntry
 pub cancel_entry : (opened : ℕ) (sh : Layout) (st : S.State) (p : ℕ) (x : ℕ) (calm : Bool) (c : ℕ) (t : ℕ) (a : ℕ) (e : ℕ) (told : ℕ) → p < sh.passes → (st.stands p).section ≡ Inside x calm → (st.stands p).phase ≡ phase.Cancel (cancel.Entry c t (object a e c)) → Shut sh st → RecordsAgree opened sh st
     → RecordsAgree opened sh (did sh st p Go (Inside x calm) (phase.Cancel (cancel.Entry c t (object a e c))) told (Load (place.Entry c e)))
 cancel_entry opened sh st p x calm c t a e told in_n at_sec at_call h r = in_world (RecordsAgree opened sh) (apply (Load (place.Entry c e)) st.memory) (put_stand st.stands p (moved sh p (st.stands p) (Inside x calm) (phase.Cancel (cancel.Entry c t (object a e c))) Go told (seen (Load (place.Entry c e)) st.memory))) st.world
@@ -117,7 +117,7 @@ cancel_entry opened sh st p x calm c t a e told in_n at_sec at_call h r = in_wor
       j_fields = λ i c' a' e' s' k' n' li is lt. grind (arith, nat_tests, r.j_fields i c' a' e' s' k' n' li, (calls h).c_named p c t a e in_n, (calls h).c_target p c t in_n, (calls h).calls p in_n, sections sh st h p in_n);
     })
 
--- kind 30
+-- kind Unfreeze
 pub unfreeze : (opened : ℕ) (sh : Layout) (st : S.State) (p : ℕ) (x : ℕ) (calm : Bool) (c : ℕ) (t : ℕ) (a : ℕ) (e : ℕ) (q : ℕ) (told : ℕ) → p < sh.passes → (st.stands p).section ≡ Inside x calm → (st.stands p).phase ≡ phase.Cancel (cancel.Unfreeze c t (object a e c) q) → Shut sh st → RecordsAgree opened sh st
     → RecordsAgree opened sh (did sh st p Go (Inside x calm) (phase.Cancel (cancel.Unfreeze c t (object a e c) q)) told (Exchange (place.Entry c e) (word.Entry (state.Frozen a q)) (word.Entry (state.Present a q))))
 unfreeze opened sh st p x calm c t a e q told in_n at_sec at_call h r = in_world (RecordsAgree opened sh) (apply (Exchange (place.Entry c e) (word.Entry (state.Frozen a q)) (word.Entry (state.Present a q))) st.memory) (put_stand st.stands p (moved sh p (st.stands p) (Inside x calm) (phase.Cancel (cancel.Unfreeze c t (object a e c) q)) Go told (seen (Exchange (place.Entry c e) (word.Entry (state.Frozen a q)) (word.Entry (state.Present a q))) st.memory))) st.world
@@ -141,7 +141,7 @@ unfreeze opened sh st p x calm c t a e q told in_n at_sec at_call h r = in_world
       j_fields = λ i c' a' e' s' k' n' li is lt. grind (arith, nat_tests, r.j_fields i c' a' e' s' k' n' li, (calls h).c_named p c t a e in_n, (calls h).c_target p c t in_n, (calls h).c_tries p c q a e in_n, (calls h).calls p in_n, sections sh st h p in_n);
     })
 
--- kind 22
+-- kind LeaveSlot
 pub cancel_gives : (opened : ℕ) (sh : Layout) (st : S.State) (p : ℕ) (x : ℕ) (calm : Bool) (c : ℕ) (t : ℕ) (told : ℕ) → p < sh.passes → (st.stands p).section ≡ Inside x calm → (st.stands p).phase ≡ phase.Cancel (cancel.GiveUp c t) → Shut sh st → RecordsAgree opened sh st
     → RecordsAgree opened sh (did sh st p Go (Inside x calm) (phase.Cancel (cancel.GiveUp c t)) told (Store (place.Directory c t) (word.Directory (dir.Limbo (x + 1)))))
 cancel_gives opened sh st p x calm c t told in_n at_sec at_call h r = in_world (RecordsAgree opened sh) (apply (Store (place.Directory c t) (word.Directory (dir.Limbo (x + 1)))) st.memory) (put_stand st.stands p (moved sh p (st.stands p) (Inside x calm) (phase.Cancel (cancel.GiveUp c t)) Go told (seen (Store (place.Directory c t) (word.Directory (dir.Limbo (x + 1)))) st.memory))) st.world
@@ -165,7 +165,7 @@ cancel_gives opened sh st p x calm c t told in_n at_sec at_call h r = in_world (
       j_fields = λ i c' a' e' s' k' n' li is lt. grind (arith, nat_tests, r.j_fields i c' a' e' s' k' n' li, (calls h).c_target p c t in_n, (calls h).c_loose p c t a' e' in_n, (calls h).calls p in_n, sections sh st h p in_n);
     })
 
--- kind 36
+-- kind CloseRound
 pub cancel_ends : (opened : ℕ) (sh : Layout) (st : S.State) (p : ℕ) (x : ℕ) (calm : Bool) (told : ℕ) → p < sh.passes → (st.stands p).section ≡ Inside x calm → (st.stands p).phase ≡ phase.Cancel cancel.End → Shut sh st → RecordsAgree opened sh st
     → RecordsAgree opened sh (did sh st p Go (Inside x calm) (phase.Cancel cancel.End) told (Store place.Round (word.Round None)))
 cancel_ends opened sh st p x calm told in_n at_sec at_call h r = in_world (RecordsAgree opened sh) (apply (Store place.Round (word.Round None)) st.memory) (put_stand st.stands p (moved sh p (st.stands p) (Inside x calm) (phase.Cancel cancel.End) Go told (seen (Store place.Round (word.Round None)) st.memory))) st.world

@@ -25,7 +25,7 @@ use Rattle.smc_agreement.specs.Records.{RecordsAgree}
 use Rattle.smc_agreement.proofs.FieldLaws.{put_word}
 use Rattle.smc_agreement.proofs.WorldViews.{in_world}
 
--- kind 32
+-- kind LoadForward
 pub l_fwd : (opened : ℕ) (sh : Layout) (st : S.State) (p : ℕ) (x : ℕ) (calm : Bool) (who : Seeker) (c : ℕ) (a : ℕ) (e : ℕ) (q : ℕ) (told : ℕ) → p < sh.passes → (st.stands p).section ≡ Inside x calm → (st.stands p).phase ≡ phase.Look (look.Help who (object a e c) q copy.Target) → Shut sh st → RecordsAgree opened sh st
     → RecordsAgree opened sh (did sh st p Go (Inside x calm) (phase.Look (look.Help who (object a e c) q copy.Target)) told (Load (place.Forward c q)))
 l_fwd opened sh st p x calm who c a e q told in_n at_sec at_call h r = in_world (RecordsAgree opened sh) (apply (Load (place.Forward c q)) st.memory) (put_stand st.stands p (moved sh p (st.stands p) (Inside x calm) (phase.Look (look.Help who (object a e c) q copy.Target)) Go told (seen (Load (place.Forward c q)) st.memory))) st.world
@@ -49,7 +49,7 @@ l_fwd opened sh st p x calm who c a e q told in_n at_sec at_call h r = in_world 
       j_fields = λ i c' a' e' s' k' n' li is lt. grind (arith, nat_tests, r.j_fields i c' a' e' s' k' n' li, (copies h).j_named p c a e q copy.Target in_n, (copies h).j_led p c a e q copy.Target in_n, (copies h).j_entry p c a e q copy.Target in_n, (copies h).j_locked p c a e q copy.Target in_n, (copies h).j_left p c a e q copy.Target in_n, (copies h).j_for p c a e q copy.Target in_n, (copies h).j_back p c a e q copy.Target in_n, r.j_passed p c a e q k' copy.Target in_n, r.j_fields p c a e q k' copy.Target in_n, (calls h).calls p in_n, sections sh st h p in_n);
     })
 
--- kind 19
+-- kind LoadField
 pub l_read : (opened : ℕ) (sh : Layout) (st : S.State) (p : ℕ) (x : ℕ) (calm : Bool) (who : Seeker) (c : ℕ) (a : ℕ) (e : ℕ) (q : ℕ) (t : ℕ) (f : ℕ) (told : ℕ) → p < sh.passes → (st.stands p).section ≡ Inside x calm → (st.stands p).phase ≡ phase.Look (look.Help who (object a e c) q (copy.Load t f)) → Shut sh st → RecordsAgree opened sh st
     → RecordsAgree opened sh (did sh st p Go (Inside x calm) (phase.Look (look.Help who (object a e c) q (copy.Load t f))) told (Load (place.Field c q f)))
 l_read opened sh st p x calm who c a e q t f told in_n at_sec at_call h r = in_world (RecordsAgree opened sh) (apply (Load (place.Field c q f)) st.memory) (put_stand st.stands p (moved sh p (st.stands p) (Inside x calm) (phase.Look (look.Help who (object a e c) q (copy.Load t f))) Go told (seen (Load (place.Field c q f)) st.memory))) st.world
@@ -73,7 +73,7 @@ l_read opened sh st p x calm who c a e q t f told in_n at_sec at_call h r = in_w
       j_fields = λ i c' a' e' s' k' n' li is lt. grind (arith, nat_tests, r.j_fields i c' a' e' s' k' n' li, (copies h).j_named p c a e q (copy.Load t f) in_n, (copies h).j_led p c a e q (copy.Load t f) in_n, (copies h).j_entry p c a e q (copy.Load t f) in_n, (copies h).j_locked p c a e q (copy.Load t f) in_n, (copies h).j_left p c a e q (copy.Load t f) in_n, (copies h).j_for p c a e q (copy.Load t f) in_n, (copies h).j_back p c a e q (copy.Load t f) in_n, r.j_passed p c a e q k' (copy.Load t f) in_n, r.j_fields p c a e q k' (copy.Load t f) in_n, (calls h).calls p in_n, sections sh st h p in_n);
     })
 
--- kind 33
+-- kind CopyField
 pub l_put : (opened : ℕ) (sh : Layout) (st : S.State) (p : ℕ) (x : ℕ) (calm : Bool) (who : Seeker) (c : ℕ) (a : ℕ) (e : ℕ) (q : ℕ) (t : ℕ) (f : ℕ) (w : ℕ) (told : ℕ) → p < sh.passes → (st.stands p).section ≡ Inside x calm → (st.stands p).phase ≡ phase.Look (look.Help who (object a e c) q (copy.Put t f w)) → Shut sh st → RecordsAgree opened sh st
     → RecordsAgree opened sh (did sh st p Go (Inside x calm) (phase.Look (look.Help who (object a e c) q (copy.Put t f w))) told (Exchange (place.Field c t f) (word.Plain BLANK) (word.Plain w)))
 l_put opened sh st p x calm who c a e q t f w told in_n at_sec at_call h r = in_world (RecordsAgree opened sh) (apply (Exchange (place.Field c t f) (word.Plain BLANK) (word.Plain w)) st.memory) (put_stand st.stands p (moved sh p (st.stands p) (Inside x calm) (phase.Look (look.Help who (object a e c) q (copy.Put t f w))) Go told (seen (Exchange (place.Field c t f) (word.Plain BLANK) (word.Plain w)) st.memory))) st.world
@@ -97,7 +97,7 @@ l_put opened sh st p x calm who c a e q t f w told in_n at_sec at_call h r = in_
       j_fields = λ i c' a' e' s' k' n' li is lt. by_eq i p (λ y. grind (arith, nat_tests, put_word sh st h opened r p c a e q t f w in_n (grind (arith, at_call)), r.j_fields p c a e q k' (copy.Put t f w) in_n, (copies h).j_led p c a e q (copy.Put t f w) in_n)) (λ n. grind (arith, nat_tests, put_word sh st h opened r p c a e q t f w in_n (grind (arith, at_call)), r.j_fields i c' a' e' s' k' n' li));
     })
 
--- kind 34
+-- kind Swing
 pub l_swing : (opened : ℕ) (sh : Layout) (st : S.State) (p : ℕ) (x : ℕ) (calm : Bool) (who : Seeker) (c : ℕ) (a : ℕ) (e : ℕ) (q : ℕ) (t : ℕ) (told : ℕ) → p < sh.passes → (st.stands p).section ≡ Inside x calm → (st.stands p).phase ≡ phase.Look (look.Help who (object a e c) q (copy.Swing t)) → Shut sh st → RecordsAgree opened sh st
     → RecordsAgree opened sh (did sh st p Go (Inside x calm) (phase.Look (look.Help who (object a e c) q (copy.Swing t))) told (Exchange (place.Entry c e) (word.Entry (state.Locked a q)) (word.Entry (state.Present a t))))
 l_swing opened sh st p x calm who c a e q t told in_n at_sec at_call h r = in_world (RecordsAgree opened sh) (apply (Exchange (place.Entry c e) (word.Entry (state.Locked a q)) (word.Entry (state.Present a t))) st.memory) (put_stand st.stands p (moved sh p (st.stands p) (Inside x calm) (phase.Look (look.Help who (object a e c) q (copy.Swing t))) Go told (seen (Exchange (place.Entry c e) (word.Entry (state.Locked a q)) (word.Entry (state.Present a t))) st.memory))) st.world

@@ -26,7 +26,7 @@ use Rattle.smc_agreement.proofs.WorldViews.{in_world, changed-view, written-ther
 use Rattle.smc_model.specs.declared.object.Object.{Object}
 use Rattle.smc_model.specs.World.{object_of, with_word, removed}
 
--- kind 19
+-- kind LoadField
 pub read : (opened : ℕ) (sh : Layout) (st : S.State) (p : ℕ) (x : ℕ) (calm : Bool) (c : ℕ) (a : ℕ) (e : ℕ) (q : ℕ) (f : ℕ) (told : ℕ) → p < sh.passes → (st.stands p).section ≡ Inside x calm → (st.stands p).phase ≡ phase.Idle → held_slot (st.stands p).held (object a e c) ≡ Some q → nat_lt f (width_of sh c) ≡ true → Shut sh st → RecordsAgree opened sh st
     → RecordsAgree opened sh (did sh st p (Start (call.Read (object a e c) f)) (Inside x calm) phase.Idle told (Load (place.Field c q f)))
 read opened sh st p x calm c a e q f told in_n at_sec at_call pre1 pre2 h r = in_world (RecordsAgree opened sh) (apply (Load (place.Field c q f)) st.memory) (put_stand st.stands p (moved sh p (st.stands p) (Inside x calm) phase.Idle (Start (call.Read (object a e c) f)) told (seen (Load (place.Field c q f)) st.memory))) st.world
@@ -50,7 +50,7 @@ read opened sh st p x calm c a e q f told in_n at_sec at_call pre1 pre2 h r = in
       j_fields = λ i c' a' e' s' k' n' li is lt. grind (arith, nat_tests, r.j_fields i c' a' e' s' k' n' li, (calls h).calls p in_n, sections sh st h p in_n);
     })
 
--- kind 20
+-- kind WriteField
 pub write : (opened : ℕ) (sh : Layout) (st : S.State) (p : ℕ) (x : ℕ) (calm : Bool) (c : ℕ) (a : ℕ) (e : ℕ) (q : ℕ) (f : ℕ) (w : ℕ) (told : ℕ) → p < sh.passes → (st.stands p).section ≡ Inside x calm → (st.stands p).phase ≡ phase.Idle → held_slot (st.stands p).held (object a e c) ≡ Some q → (nat_lt f (width_of sh c) && is_value w) ≡ true → Shut sh st → RecordsAgree opened sh st
     → RecordsAgree opened sh (did sh st p (Start (call.Write (object a e c) f w)) (Inside x calm) phase.Idle told (Store (place.Field c q f) (word.Plain w)))
 write opened sh st p x calm c a e q f w told in_n at_sec at_call pre1 pre2 h r = record {
@@ -73,7 +73,7 @@ write opened sh st p x calm c a e q f w told in_n at_sec at_call pre1 pre2 h r =
   j_fields = λ i c' a' e' s' k' n' li is lt. grind (arith, nat_tests, r.j_fields i c' a' e' s' k' n' li, (objects h).held p c a e q in_n pre1, r.held_record p c a e q k' in_n pre1, (calls h).calls p in_n, sections sh st h p in_n);
 }
 
--- kind 21
+-- kind MarkGone
 pub starts_remove : (opened : ℕ) (sh : Layout) (st : S.State) (p : ℕ) (x : ℕ) (calm : Bool) (c : ℕ) (a : ℕ) (e : ℕ) (q : ℕ) (told : ℕ) → p < sh.passes → (st.stands p).section ≡ Inside x calm → (st.stands p).phase ≡ phase.Idle → held_slot (st.stands p).held (object a e c) ≡ Some q → Shut sh st → RecordsAgree opened sh st
     → RecordsAgree opened sh (did sh st p (Start (call.Remove (object a e c))) (Inside x calm) phase.Idle told (MarkGone c e))
 starts_remove opened sh st p x calm c a e q told in_n at_sec at_call pre1 h r = record {
@@ -96,7 +96,7 @@ starts_remove opened sh st p x calm c a e q told in_n at_sec at_call pre1 h r = 
   j_fields = λ i c' a' e' s' k' n' li is lt. grind (arith, nat_tests, r.j_fields i c' a' e' s' k' n' li, (objects h).held p c a e q in_n pre1, r.held_record p c a e q k' in_n pre1, (calls h).calls p in_n, sections sh st h p in_n);
 }
 
--- kind 22
+-- kind LeaveSlot
 pub leave_slot : (opened : ℕ) (sh : Layout) (st : S.State) (p : ℕ) (x : ℕ) (calm : Bool) (c : ℕ) (a : ℕ) (e : ℕ) (q : ℕ) (told : ℕ) → p < sh.passes → (st.stands p).section ≡ Inside x calm → (st.stands p).phase ≡ phase.Remove (remove.LeaveSlot q (object a e c)) → Shut sh st → RecordsAgree opened sh st
     → RecordsAgree opened sh (did sh st p Go (Inside x calm) (phase.Remove (remove.LeaveSlot q (object a e c))) told (Store (place.Directory c q) (word.Directory (dir.Limbo (x + 1)))))
 leave_slot opened sh st p x calm c a e q told in_n at_sec at_call h r = in_world (RecordsAgree opened sh) (apply (Store (place.Directory c q) (word.Directory (dir.Limbo (x + 1)))) st.memory) (put_stand st.stands p (moved sh p (st.stands p) (Inside x calm) (phase.Remove (remove.LeaveSlot q (object a e c))) Go told (seen (Store (place.Directory c q) (word.Directory (dir.Limbo (x + 1)))) st.memory))) st.world
@@ -120,7 +120,7 @@ leave_slot opened sh st p x calm c a e q told in_n at_sec at_call h r = in_world
       j_fields = λ i c' a' e' s' k' n' li is lt. grind (arith, nat_tests, r.j_fields i c' a' e' s' k' n' li, (calls h).c_removes p c a e in_n, (calls h).c_leaving p c q a e in_n, (calls h).c_limbos p c q a e in_n, (calls h).calls p in_n, sections sh st h p in_n);
     })
 
--- kind 23
+-- kind FreeEntry
 pub free_entry : (opened : ℕ) (sh : Layout) (st : S.State) (p : ℕ) (x : ℕ) (calm : Bool) (c : ℕ) (a : ℕ) (e : ℕ) (told : ℕ) → p < sh.passes → (st.stands p).section ≡ Inside x calm → (st.stands p).phase ≡ phase.Remove (remove.FreeEntry (object a e c)) → Shut sh st → RecordsAgree opened sh st
     → RecordsAgree opened sh (did sh st p Go (Inside x calm) (phase.Remove (remove.FreeEntry (object a e c))) told (Store (place.Entry c e) (word.Entry (state.Free a (x + 1)))))
 free_entry opened sh st p x calm c a e told in_n at_sec at_call h r = in_world (RecordsAgree opened sh) (apply (Store (place.Entry c e) (word.Entry (state.Free a (x + 1)))) st.memory) (put_stand st.stands p (moved sh p (st.stands p) (Inside x calm) (phase.Remove (remove.FreeEntry (object a e c))) Go told (seen (Store (place.Entry c e) (word.Entry (state.Free a (x + 1)))) st.memory))) st.world

@@ -22,7 +22,7 @@ use Rattle.smc_rules.specs.Memory.{apply, seen}
 use Rattle.smc_agreement.specs.Records.{RecordsAgree}
 use Rattle.smc_agreement.proofs.WorldViews.{in_world}
 
--- kind 25
+-- kind LookUp
 pub starts_look : (opened : ℕ) (sh : Layout) (st : S.State) (p : ℕ) (x : ℕ) (calm : Bool) (c : ℕ) (a : ℕ) (e : ℕ) (told : ℕ) → p < sh.passes → (st.stands p).section ≡ Inside x calm → (st.stands p).phase ≡ phase.Idle → has_place sh (place.Entry c e) ≡ true → Shut sh st → RecordsAgree opened sh st
     → RecordsAgree opened sh (did sh st p (Start (call.Look (object a e c))) (Inside x calm) phase.Idle told (Load (place.Entry c e)))
 starts_look opened sh st p x calm c a e told in_n at_sec at_call pre1 h r = in_world (RecordsAgree opened sh) (apply (Load (place.Entry c e)) st.memory) (put_stand st.stands p (moved sh p (st.stands p) (Inside x calm) phase.Idle (Start (call.Look (object a e c))) told (seen (Load (place.Entry c e)) st.memory))) st.world
@@ -46,7 +46,7 @@ starts_look opened sh st p x calm c a e told in_n at_sec at_call pre1 h r = in_w
       j_fields = λ i c' a' e' s' k' n' li is lt. grind (arith, nat_tests, r.j_fields i c' a' e' s' k' n' li, (calls h).calls p in_n, sections sh st h p in_n);
     })
 
--- kind 8
+-- kind LoadSection
 pub look_out : (opened : ℕ) (sh : Layout) (st : S.State) (p : ℕ) (x : ℕ) (calm : Bool) (c : ℕ) (a : ℕ) (e : ℕ) (told : ℕ) → p < sh.passes → (st.stands p).section ≡ Inside x calm → (st.stands p).phase ≡ phase.Idle → has_place sh (place.Entry c e) ≡ false → Shut sh st → RecordsAgree opened sh st
     → RecordsAgree opened sh (did sh st p (Start (call.Look (object a e c))) (Inside x calm) phase.Idle told (Load (place.Section p)))
 look_out opened sh st p x calm c a e told in_n at_sec at_call pre1 h r = in_world (RecordsAgree opened sh) (apply (Load (place.Section p)) st.memory) (put_stand st.stands p (moved sh p (st.stands p) (Inside x calm) phase.Idle (Start (call.Look (object a e c))) told (seen (Load (place.Section p)) st.memory))) st.world
@@ -70,7 +70,7 @@ look_out opened sh st p x calm c a e told in_n at_sec at_call pre1 h r = in_worl
       j_fields = λ i c' a' e' s' k' n' li is lt. grind (arith, nat_tests, r.j_fields i c' a' e' s' k' n' li, (calls h).calls p in_n, sections sh st h p in_n);
     })
 
--- kind 25
+-- kind LookUp
 pub look_load : (opened : ℕ) (sh : Layout) (st : S.State) (p : ℕ) (x : ℕ) (calm : Bool) (who : Seeker) (c : ℕ) (a : ℕ) (e : ℕ) (told : ℕ) → p < sh.passes → (st.stands p).section ≡ Inside x calm → (st.stands p).phase ≡ phase.Look (look.Load who (object a e c)) → Shut sh st → RecordsAgree opened sh st
     → RecordsAgree opened sh (did sh st p Go (Inside x calm) (phase.Look (look.Load who (object a e c))) told (Load (place.Entry c e)))
 look_load opened sh st p x calm who c a e told in_n at_sec at_call h r = in_world (RecordsAgree opened sh) (apply (Load (place.Entry c e)) st.memory) (put_stand st.stands p (moved sh p (st.stands p) (Inside x calm) (phase.Look (look.Load who (object a e c))) Go told (seen (Load (place.Entry c e)) st.memory))) st.world
@@ -94,7 +94,7 @@ look_load opened sh st p x calm who c a e told in_n at_sec at_call h r = in_worl
       j_fields = λ i c' a' e' s' k' n' li is lt. grind (arith, nat_tests, r.j_fields i c' a' e' s' k' n' li, (calls h).calls p in_n, sections sh st h p in_n);
     })
 
--- kind 30
+-- kind Unfreeze
 pub abandon : (opened : ℕ) (sh : Layout) (st : S.State) (p : ℕ) (x : ℕ) (calm : Bool) (who : Seeker) (c : ℕ) (a : ℕ) (e : ℕ) (q : ℕ) (told : ℕ) → p < sh.passes → (st.stands p).section ≡ Inside x calm → (st.stands p).phase ≡ phase.Look (look.Abandon who (object a e c) q) → Shut sh st → RecordsAgree opened sh st
     → RecordsAgree opened sh (did sh st p Go (Inside x calm) (phase.Look (look.Abandon who (object a e c) q)) told (Exchange (place.Entry c e) (word.Entry (state.Frozen a q)) (word.Entry (state.Present a q))))
 abandon opened sh st p x calm who c a e q told in_n at_sec at_call h r = in_world (RecordsAgree opened sh) (apply (Exchange (place.Entry c e) (word.Entry (state.Frozen a q)) (word.Entry (state.Present a q))) st.memory) (put_stand st.stands p (moved sh p (st.stands p) (Inside x calm) (phase.Look (look.Abandon who (object a e c) q)) Go told (seen (Exchange (place.Entry c e) (word.Entry (state.Frozen a q)) (word.Entry (state.Present a q))) st.memory))) st.world

@@ -22,7 +22,7 @@ use Rattle.smc_rules.specs.Memory.{apply, seen}
 use Rattle.smc_agreement.specs.Records.{RecordsAgree}
 use Rattle.smc_agreement.proofs.WorldViews.{in_world}
 
--- kind 8
+-- kind LoadSection
 pub starts_scan : (opened : ℕ) (sh : Layout) (st : S.State) (p : ℕ) (x : ℕ) (calm : Bool) (c : ℕ) (told : ℕ) → p < sh.passes → (st.stands p).section ≡ Inside x calm → (st.stands p).phase ≡ phase.Idle → Shut sh st → RecordsAgree opened sh st
     → RecordsAgree opened sh (did sh st p (Start (call.Scan c)) (Inside x calm) phase.Idle told (Load (place.Section p)))
 starts_scan opened sh st p x calm c told in_n at_sec at_call h r = in_world (RecordsAgree opened sh) (apply (Load (place.Section p)) st.memory) (put_stand st.stands p (moved sh p (st.stands p) (Inside x calm) phase.Idle (Start (call.Scan c)) told (seen (Load (place.Section p)) st.memory))) st.world
@@ -46,7 +46,7 @@ starts_scan opened sh st p x calm c told in_n at_sec at_call h r = in_world (Rec
       j_fields = λ i c' a' e' s' k' n' li is lt. grind (arith, nat_tests, r.j_fields i c' a' e' s' k' n' li, (calls h).calls p in_n, sections sh st h p in_n);
     })
 
--- kind 8
+-- kind LoadSection
 pub next_over : (opened : ℕ) (sh : Layout) (st : S.State) (p : ℕ) (x : ℕ) (calm : Bool) (k : ℕ) (b1 : Scan) (told : ℕ) → p < sh.passes → (st.stands p).section ≡ Inside x calm → (st.stands p).phase ≡ phase.Idle → scan_of (st.stands p).scans k ≡ Some b1 → is_over sh b1 ≡ true → Shut sh st → RecordsAgree opened sh st
     → RecordsAgree opened sh (did sh st p (Start (call.Next k)) (Inside x calm) phase.Idle told (Load (place.Section p)))
 next_over opened sh st p x calm k b1 told in_n at_sec at_call pre1 pre2 h r = in_world (RecordsAgree opened sh) (apply (Load (place.Section p)) st.memory) (put_stand st.stands p (moved sh p (st.stands p) (Inside x calm) phase.Idle (Start (call.Next k)) told (seen (Load (place.Section p)) st.memory))) st.world
@@ -70,7 +70,7 @@ next_over opened sh st p x calm k b1 told in_n at_sec at_call pre1 pre2 h r = in
       j_fields = λ i c' a' e' s' k' n' li is lt. grind (arith, nat_tests, r.j_fields i c' a' e' s' k' n' li, (calls h).calls p in_n, sections sh st h p in_n);
     })
 
--- kind 10
+-- kind LoadDirectory
 pub next_slot : (opened : ℕ) (sh : Layout) (st : S.State) (p : ℕ) (x : ℕ) (calm : Bool) (k : ℕ) (b1 : Scan) (told : ℕ) → p < sh.passes → (st.stands p).section ≡ Inside x calm → (st.stands p).phase ≡ phase.Idle → scan_of (st.stands p).scans k ≡ Some b1 → is_over sh b1 ≡ false → Shut sh st → RecordsAgree opened sh st
     → RecordsAgree opened sh (did sh st p (Start (call.Next k)) (Inside x calm) phase.Idle told (Load (place.Directory b1.coll b1.place)))
 next_slot opened sh st p x calm k b1 told in_n at_sec at_call pre1 pre2 h r = in_world (RecordsAgree opened sh) (apply (Load (place.Directory b1.coll b1.place)) st.memory) (put_stand st.stands p (moved sh p (st.stands p) (Inside x calm) phase.Idle (Start (call.Next k)) told (seen (Load (place.Directory b1.coll b1.place)) st.memory))) st.world
@@ -94,7 +94,7 @@ next_slot opened sh st p x calm k b1 told in_n at_sec at_call pre1 pre2 h r = in
       j_fields = λ i c' a' e' s' k' n' li is lt. grind (arith, nat_tests, r.j_fields i c' a' e' s' k' n' li, (calls h).calls p in_n, sections sh st h p in_n);
     })
 
--- kind 10
+-- kind LoadDirectory
 pub scan_dir : (opened : ℕ) (sh : Layout) (st : S.State) (p : ℕ) (x : ℕ) (calm : Bool) (k : ℕ) (c : ℕ) (t : ℕ) (told : ℕ) → p < sh.passes → (st.stands p).section ≡ Inside x calm → (st.stands p).phase ≡ phase.Scan (scan.Directory k c t) → Shut sh st → RecordsAgree opened sh st
     → RecordsAgree opened sh (did sh st p Go (Inside x calm) (phase.Scan (scan.Directory k c t)) told (Load (place.Directory c t)))
 scan_dir opened sh st p x calm k c t told in_n at_sec at_call h r = in_world (RecordsAgree opened sh) (apply (Load (place.Directory c t)) st.memory) (put_stand st.stands p (moved sh p (st.stands p) (Inside x calm) (phase.Scan (scan.Directory k c t)) Go told (seen (Load (place.Directory c t)) st.memory))) st.world
@@ -118,7 +118,7 @@ scan_dir opened sh st p x calm k c t told in_n at_sec at_call h r = in_world (Re
       j_fields = λ i c' a' e' s' k' n' li is lt. grind (arith, nat_tests, r.j_fields i c' a' e' s' k' n' li, (calls h).calls p in_n, sections sh st h p in_n);
     })
 
--- kind 24
+-- kind LoadBack
 pub scan_back : (opened : ℕ) (sh : Layout) (st : S.State) (p : ℕ) (x : ℕ) (calm : Bool) (k : ℕ) (c : ℕ) (t : ℕ) (told : ℕ) → p < sh.passes → (st.stands p).section ≡ Inside x calm → (st.stands p).phase ≡ phase.Scan (scan.Back k c t) → Shut sh st → RecordsAgree opened sh st
     → RecordsAgree opened sh (did sh st p Go (Inside x calm) (phase.Scan (scan.Back k c t)) told (Load (place.Back c t)))
 scan_back opened sh st p x calm k c t told in_n at_sec at_call h r = in_world (RecordsAgree opened sh) (apply (Load (place.Back c t)) st.memory) (put_stand st.stands p (moved sh p (st.stands p) (Inside x calm) (phase.Scan (scan.Back k c t)) Go told (seen (Load (place.Back c t)) st.memory))) st.world
@@ -142,7 +142,7 @@ scan_back opened sh st p x calm k c t told in_n at_sec at_call h r = in_world (R
       j_fields = λ i c' a' e' s' k' n' li is lt. grind (arith, nat_tests, r.j_fields i c' a' e' s' k' n' li, (calls h).calls p in_n, sections sh st h p in_n);
     })
 
--- kind 8
+-- kind LoadSection
 pub scan_end : (opened : ℕ) (sh : Layout) (st : S.State) (p : ℕ) (x : ℕ) (calm : Bool) (k : ℕ) (told : ℕ) → p < sh.passes → (st.stands p).section ≡ Inside x calm → (st.stands p).phase ≡ phase.Scan (scan.End k) → Shut sh st → RecordsAgree opened sh st
     → RecordsAgree opened sh (did sh st p Go (Inside x calm) (phase.Scan (scan.End k)) told (Load (place.Section p)))
 scan_end opened sh st p x calm k told in_n at_sec at_call h r = in_world (RecordsAgree opened sh) (apply (Load (place.Section p)) st.memory) (put_stand st.stands p (moved sh p (st.stands p) (Inside x calm) (phase.Scan (scan.End k)) Go told (seen (Load (place.Section p)) st.memory))) st.world
@@ -166,7 +166,7 @@ scan_end opened sh st p x calm k told in_n at_sec at_call h r = in_world (Record
       j_fields = λ i c' a' e' s' k' n' li is lt. grind (arith, nat_tests, r.j_fields i c' a' e' s' k' n' li, (calls h).calls p in_n, sections sh st h p in_n);
     })
 
--- kind 10
+-- kind LoadDirectory
 pub survey : (opened : ℕ) (sh : Layout) (st : S.State) (p : ℕ) (x : ℕ) (calm : Bool) (c : ℕ) (told : ℕ) → p < sh.passes → (st.stands p).section ≡ Inside x calm → (st.stands p).phase ≡ phase.Idle → Shut sh st → RecordsAgree opened sh st
     → RecordsAgree opened sh (did sh st p (Start (call.Survey c)) (Inside x calm) phase.Idle told (Load (place.Directory c 0)))
 survey opened sh st p x calm c told in_n at_sec at_call h r = in_world (RecordsAgree opened sh) (apply (Load (place.Directory c 0)) st.memory) (put_stand st.stands p (moved sh p (st.stands p) (Inside x calm) phase.Idle (Start (call.Survey c)) told (seen (Load (place.Directory c 0)) st.memory))) st.world
@@ -190,7 +190,7 @@ survey opened sh st p x calm c told in_n at_sec at_call h r = in_world (RecordsA
       j_fields = λ i c' a' e' s' k' n' li is lt. grind (arith, nat_tests, r.j_fields i c' a' e' s' k' n' li, (calls h).calls p in_n, sections sh st h p in_n);
     })
 
--- kind 10
+-- kind LoadDirectory
 pub survey_dir : (opened : ℕ) (sh : Layout) (st : S.State) (p : ℕ) (x : ℕ) (calm : Bool) (c : ℕ) (t : ℕ) (cnt : Count) (told : ℕ) → p < sh.passes → (st.stands p).section ≡ Inside x calm → (st.stands p).phase ≡ phase.Survey (walk.Directory c t cnt) → Shut sh st → RecordsAgree opened sh st
     → RecordsAgree opened sh (did sh st p Go (Inside x calm) (phase.Survey (walk.Directory c t cnt)) told (Load (place.Directory c t)))
 survey_dir opened sh st p x calm c t cnt told in_n at_sec at_call h r = in_world (RecordsAgree opened sh) (apply (Load (place.Directory c t)) st.memory) (put_stand st.stands p (moved sh p (st.stands p) (Inside x calm) (phase.Survey (walk.Directory c t cnt)) Go told (seen (Load (place.Directory c t)) st.memory))) st.world
@@ -214,7 +214,7 @@ survey_dir opened sh st p x calm c t cnt told in_n at_sec at_call h r = in_world
       j_fields = λ i c' a' e' s' k' n' li is lt. grind (arith, nat_tests, r.j_fields i c' a' e' s' k' n' li, (calls h).calls p in_n, sections sh st h p in_n);
     })
 
--- kind 24
+-- kind LoadBack
 pub survey_back : (opened : ℕ) (sh : Layout) (st : S.State) (p : ℕ) (x : ℕ) (calm : Bool) (c : ℕ) (t : ℕ) (cnt : Count) (told : ℕ) → p < sh.passes → (st.stands p).section ≡ Inside x calm → (st.stands p).phase ≡ phase.Survey (walk.Back c t cnt) → Shut sh st → RecordsAgree opened sh st
     → RecordsAgree opened sh (did sh st p Go (Inside x calm) (phase.Survey (walk.Back c t cnt)) told (Load (place.Back c t)))
 survey_back opened sh st p x calm c t cnt told in_n at_sec at_call h r = in_world (RecordsAgree opened sh) (apply (Load (place.Back c t)) st.memory) (put_stand st.stands p (moved sh p (st.stands p) (Inside x calm) (phase.Survey (walk.Back c t cnt)) Go told (seen (Load (place.Back c t)) st.memory))) st.world
@@ -238,7 +238,7 @@ survey_back opened sh st p x calm c t cnt told in_n at_sec at_call h r = in_worl
       j_fields = λ i c' a' e' s' k' n' li is lt. grind (arith, nat_tests, r.j_fields i c' a' e' s' k' n' li, (calls h).calls p in_n, sections sh st h p in_n);
     })
 
--- kind 13
+-- kind LoadEntry
 pub survey_entry : (opened : ℕ) (sh : Layout) (st : S.State) (p : ℕ) (x : ℕ) (calm : Bool) (c : ℕ) (t : ℕ) (cnt : Count) (c2 : ℕ) (a : ℕ) (e : ℕ) (told : ℕ) → p < sh.passes → (st.stands p).section ≡ Inside x calm → (st.stands p).phase ≡ phase.Survey (walk.Entry c t cnt (object a e c2)) → Shut sh st → RecordsAgree opened sh st
     → RecordsAgree opened sh (did sh st p Go (Inside x calm) (phase.Survey (walk.Entry c t cnt (object a e c2))) told (Load (place.Entry c2 e)))
 survey_entry opened sh st p x calm c t cnt c2 a e told in_n at_sec at_call h r = in_world (RecordsAgree opened sh) (apply (Load (place.Entry c2 e)) st.memory) (put_stand st.stands p (moved sh p (st.stands p) (Inside x calm) (phase.Survey (walk.Entry c t cnt (object a e c2))) Go told (seen (Load (place.Entry c2 e)) st.memory))) st.world

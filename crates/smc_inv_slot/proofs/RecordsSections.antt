@@ -18,7 +18,7 @@ use Rattle.smc_rules.specs.Memory.{apply, seen}
 use Rattle.smc_agreement.specs.Records.{RecordsAgree}
 use Rattle.smc_agreement.proofs.WorldViews.{in_world}
 
--- kind 1
+-- kind LoadEpoch
 pub enter : (opened : ℕ) (sh : Layout) (st : S.State) (p : ℕ) (told : ℕ) → p < sh.passes → (st.stands p).section ≡ Outside → (st.stands p).phase ≡ phase.Idle → Shut sh st → RecordsAgree opened sh st
     → RecordsAgree opened sh (did sh st p (Start call.Enter) Outside phase.Idle told (Load place.Epoch))
 enter opened sh st p told in_n at_sec at_call h r = in_world (RecordsAgree opened sh) (apply (Load place.Epoch) st.memory) (put_stand st.stands p (moved sh p (st.stands p) Outside phase.Idle (Start call.Enter) told (seen (Load place.Epoch) st.memory))) st.world
@@ -42,7 +42,7 @@ enter opened sh st p told in_n at_sec at_call h r = in_world (RecordsAgree opene
       j_fields = λ i c' a' e' s' k' n' li is lt. grind (arith, nat_tests, r.j_fields i c' a' e' s' k' n' li);
     })
 
--- kind 2
+-- kind Announce
 pub announce : (opened : ℕ) (sh : Layout) (st : S.State) (p : ℕ) (v : ℕ) (told : ℕ) → p < sh.passes → (st.stands p).section ≡ Loaded v → (st.stands p).phase ≡ phase.Entering → Shut sh st → RecordsAgree opened sh st
     → RecordsAgree opened sh (did sh st p Go (Loaded v) phase.Entering told (Store (place.Section p) (word.Plain v)))
 announce opened sh st p v told in_n at_sec at_call h r = in_world (RecordsAgree opened sh) (apply (Store (place.Section p) (word.Plain v)) st.memory) (put_stand st.stands p (moved sh p (st.stands p) (Loaded v) phase.Entering Go told (seen (Store (place.Section p) (word.Plain v)) st.memory))) st.world
@@ -66,7 +66,7 @@ announce opened sh st p v told in_n at_sec at_call h r = in_world (RecordsAgree 
       j_fields = λ i c' a' e' s' k' n' li is lt. grind (arith, nat_tests, r.j_fields i c' a' e' s' k' n' li, (calls h).calls p in_n, sections sh st h p in_n);
     })
 
--- kind 3
+-- kind LoadEpochAgain
 pub again : (opened : ℕ) (sh : Layout) (st : S.State) (p : ℕ) (v : ℕ) (told : ℕ) → p < sh.passes → (st.stands p).section ≡ Announced v → (st.stands p).phase ≡ phase.Entering → Shut sh st → RecordsAgree opened sh st
     → RecordsAgree opened sh (did sh st p Go (Announced v) phase.Entering told (Load place.Epoch))
 again opened sh st p v told in_n at_sec at_call h r = in_world (RecordsAgree opened sh) (apply (Load place.Epoch) st.memory) (put_stand st.stands p (moved sh p (st.stands p) (Announced v) phase.Entering Go told (seen (Load place.Epoch) st.memory))) st.world
@@ -90,7 +90,7 @@ again opened sh st p v told in_n at_sec at_call h r = in_world (RecordsAgree ope
       j_fields = λ i c' a' e' s' k' n' li is lt. grind (arith, nat_tests, r.j_fields i c' a' e' s' k' n' li, (calls h).calls p in_n, sections sh st h p in_n);
     })
 
--- kind 4
+-- kind AnnounceAgain
 pub lasting : (opened : ℕ) (sh : Layout) (st : S.State) (p : ℕ) (v : ℕ) (z : ℕ) (told : ℕ) → p < sh.passes → (st.stands p).section ≡ Again v z → (st.stands p).phase ≡ phase.Entering → Shut sh st → RecordsAgree opened sh st
     → RecordsAgree opened sh (did sh st p Go (Again v z) phase.Entering told (Store (place.Section p) (word.Plain z)))
 lasting opened sh st p v z told in_n at_sec at_call h r = in_world (RecordsAgree opened sh) (apply (Store (place.Section p) (word.Plain z)) st.memory) (put_stand st.stands p (moved sh p (st.stands p) (Again v z) phase.Entering Go told (seen (Store (place.Section p) (word.Plain z)) st.memory))) st.world
@@ -114,7 +114,7 @@ lasting opened sh st p v z told in_n at_sec at_call h r = in_world (RecordsAgree
       j_fields = λ i c' a' e' s' k' n' li is lt. grind (arith, nat_tests, r.j_fields i c' a' e' s' k' n' li, (calls h).calls p in_n, sections sh st h p in_n);
     })
 
--- kind 5
+-- kind LoadRound
 pub entered : (opened : ℕ) (sh : Layout) (st : S.State) (p : ℕ) (z : ℕ) (told : ℕ) → p < sh.passes → (st.stands p).section ≡ Lasting z → (st.stands p).phase ≡ phase.Entering → Shut sh st → RecordsAgree opened sh st
     → RecordsAgree opened sh (did sh st p Go (Lasting z) phase.Entering told (Load place.Round))
 entered opened sh st p z told in_n at_sec at_call h r = in_world (RecordsAgree opened sh) (apply (Load place.Round) st.memory) (put_stand st.stands p (moved sh p (st.stands p) (Lasting z) phase.Entering Go told (seen (Load place.Round) st.memory))) st.world
@@ -138,7 +138,7 @@ entered opened sh st p z told in_n at_sec at_call h r = in_world (RecordsAgree o
       j_fields = λ i c' a' e' s' k' n' li is lt. grind (arith, nat_tests, r.j_fields i c' a' e' s' k' n' li, (calls h).calls p in_n, sections sh st h p in_n);
     })
 
--- kind 6
+-- kind Leave
 pub leave : (opened : ℕ) (sh : Layout) (st : S.State) (p : ℕ) (x : ℕ) (calm : Bool) (told : ℕ) → p < sh.passes → (st.stands p).section ≡ Inside x calm → (st.stands p).phase ≡ phase.Idle → Shut sh st → RecordsAgree opened sh st
     → RecordsAgree opened sh (did sh st p (Start call.Leave) (Inside x calm) phase.Idle told (Store (place.Section p) (word.Plain 0)))
 leave opened sh st p x calm told in_n at_sec at_call h r = in_world (RecordsAgree opened sh) (apply (Store (place.Section p) (word.Plain 0)) st.memory) (put_stand st.stands p (moved sh p (st.stands p) (Inside x calm) phase.Idle (Start call.Leave) told (seen (Store (place.Section p) (word.Plain 0)) st.memory))) st.world
@@ -162,7 +162,7 @@ leave opened sh st p x calm told in_n at_sec at_call h r = in_world (RecordsAgre
       j_fields = λ i c' a' e' s' k' n' li is lt. grind (arith, nat_tests, r.j_fields i c' a' e' s' k' n' li, (calls h).calls p in_n, sections sh st h p in_n);
     })
 
--- kind 7
+-- kind StartAdvance
 pub advance : (opened : ℕ) (sh : Layout) (st : S.State) (p : ℕ) (told : ℕ) → p < sh.passes → (st.stands p).section ≡ Outside → (st.stands p).phase ≡ phase.Idle → Shut sh st → RecordsAgree opened sh st
     → RecordsAgree opened sh (did sh st p (Start call.Advance) Outside phase.Idle told (Load place.Epoch))
 advance opened sh st p told in_n at_sec at_call h r = in_world (RecordsAgree opened sh) (apply (Load place.Epoch) st.memory) (put_stand st.stands p (moved sh p (st.stands p) Outside phase.Idle (Start call.Advance) told (seen (Load place.Epoch) st.memory))) st.world
@@ -186,7 +186,7 @@ advance opened sh st p told in_n at_sec at_call h r = in_world (RecordsAgree ope
       j_fields = λ i c' a' e' s' k' n' li is lt. grind (arith, nat_tests, r.j_fields i c' a' e' s' k' n' li);
     })
 
--- kind 8
+-- kind LoadSection
 pub advancing : (opened : ℕ) (sh : Layout) (st : S.State) (p : ℕ) (sec : Section) (z : ℕ) (k : ℕ) (told : ℕ) → p < sh.passes → (st.stands p).section ≡ sec → (st.stands p).phase ≡ phase.Advancing z k → Shut sh st → RecordsAgree opened sh st
     → RecordsAgree opened sh (did sh st p Go sec (phase.Advancing z k) told (Load (place.Section k)))
 advancing opened sh st p sec z k told in_n at_sec at_call h r = in_world (RecordsAgree opened sh) (apply (Load (place.Section k)) st.memory) (put_stand st.stands p (moved sh p (st.stands p) sec (phase.Advancing z k) Go told (seen (Load (place.Section k)) st.memory))) st.world
@@ -210,7 +210,7 @@ advancing opened sh st p sec z k told in_n at_sec at_call h r = in_world (Record
       j_fields = λ i c' a' e' s' k' n' li is lt. grind (arith, nat_tests, r.j_fields i c' a' e' s' k' n' li, (calls h).calls p in_n, sections sh st h p in_n);
     })
 
--- kind 9
+-- kind AdvanceEpoch
 pub ready : (opened : ℕ) (sh : Layout) (st : S.State) (p : ℕ) (sec : Section) (z : ℕ) (told : ℕ) → p < sh.passes → (st.stands p).section ≡ sec → (st.stands p).phase ≡ phase.Ready z → Shut sh st → RecordsAgree opened sh st
     → RecordsAgree opened sh (did sh st p Go sec (phase.Ready z) told (Exchange place.Epoch (word.Plain z) (word.Plain (z + 1))))
 ready opened sh st p sec z told in_n at_sec at_call h r = in_world (RecordsAgree opened sh) (apply (Exchange place.Epoch (word.Plain z) (word.Plain (z + 1))) st.memory) (put_stand st.stands p (moved sh p (st.stands p) sec (phase.Ready z) Go told (seen (Exchange place.Epoch (word.Plain z) (word.Plain (z + 1))) st.memory))) st.world
@@ -234,7 +234,7 @@ ready opened sh st p sec z told in_n at_sec at_call h r = in_world (RecordsAgree
       j_fields = λ i c' a' e' s' k' n' li is lt. grind (arith, nat_tests, r.j_fields i c' a' e' s' k' n' li, (calls h).calls p in_n, sections sh st h p in_n);
     })
 
--- kind 1
+-- kind LoadEpoch
 pub note : (opened : ℕ) (sh : Layout) (st : S.State) (p : ℕ) (told : ℕ) → p < sh.passes → (st.stands p).section ≡ Outside → (st.stands p).phase ≡ phase.Idle → Shut sh st → RecordsAgree opened sh st
     → RecordsAgree opened sh (did sh st p (Start call.Note) Outside phase.Idle told (Load place.Epoch))
 note opened sh st p told in_n at_sec at_call h r = in_world (RecordsAgree opened sh) (apply (Load place.Epoch) st.memory) (put_stand st.stands p (moved sh p (st.stands p) Outside phase.Idle (Start call.Note) told (seen (Load place.Epoch) st.memory))) st.world
@@ -258,7 +258,7 @@ note opened sh st p told in_n at_sec at_call h r = in_world (RecordsAgree opened
       j_fields = λ i c' a' e' s' k' n' li is lt. grind (arith, nat_tests, r.j_fields i c' a' e' s' k' n' li);
     })
 
--- kind 1
+-- kind LoadEpoch
 pub learn : (opened : ℕ) (sh : Layout) (st : S.State) (p : ℕ) (k : ℕ) (z : ℕ) (told : ℕ) → p < sh.passes → (st.stands p).section ≡ Outside → (st.stands p).phase ≡ phase.Idle → Shut sh st → RecordsAgree opened sh st
     → RecordsAgree opened sh (did sh st p (Start (call.Learn k z)) Outside phase.Idle told (Load place.Epoch))
 learn opened sh st p k z told in_n at_sec at_call h r = in_world (RecordsAgree opened sh) (apply (Load place.Epoch) st.memory) (put_stand st.stands p (moved sh p (st.stands p) Outside phase.Idle (Start (call.Learn k z)) told (seen (Load place.Epoch) st.memory))) st.world

@@ -24,7 +24,7 @@ use Rattle.smc_rules.specs.Memory.{apply, seen}
 use Rattle.smc_agreement.specs.Records.{RecordsAgree}
 use Rattle.smc_agreement.proofs.WorldViews.{in_world}
 
--- kind 10
+-- kind LoadDirectory
 pub target_dir : (opened : ℕ) (sh : Layout) (st : S.State) (p : ℕ) (x : ℕ) (calm : Bool) (m : Walk) (a : ℕ) (e : ℕ) (told : ℕ) → p < sh.passes → (st.stands p).section ≡ Inside x calm → (st.stands p).phase ≡ phase.Begin (begin.TargetDirectory m (object a e m.coll)) → Shut sh st → RecordsAgree opened sh st
     → RecordsAgree opened sh (did sh st p Go (Inside x calm) (phase.Begin (begin.TargetDirectory m (object a e m.coll))) told (Load (place.Directory m.coll m.target)))
 target_dir opened sh st p x calm m a e told in_n at_sec at_call h r = in_world (RecordsAgree opened sh) (apply (Load (place.Directory m.coll m.target)) st.memory) (put_stand st.stands p (moved sh p (st.stands p) (Inside x calm) (phase.Begin (begin.TargetDirectory m (object a e m.coll))) Go told (seen (Load (place.Directory m.coll m.target)) st.memory))) st.world
@@ -48,7 +48,7 @@ target_dir opened sh st p x calm m a e told in_n at_sec at_call h r = in_world (
       j_fields = λ i c' a' e' s' k' n' li is lt. grind (arith, nat_tests, r.j_fields i c' a' e' s' k' n' li, (calls h).c_origin p m.coll m.source a e in_n, (calls h).c_source p m.coll m.source a e in_n, (calls h).c_resting p m.coll m.source a e in_n, below sh st h p in_n (begin.TargetDirectory m (object a e m.coll)) at_call, (calls h).calls p in_n, sections sh st h p in_n);
     })
 
--- kind 11
+-- kind ClaimSlot
 pub claim_target : (opened : ℕ) (sh : Layout) (st : S.State) (p : ℕ) (x : ℕ) (calm : Bool) (m : Walk) (a : ℕ) (e : ℕ) (d : Dir) (told : ℕ) → p < sh.passes → (st.stands p).section ≡ Inside x calm → (st.stands p).phase ≡ phase.Begin (begin.ClaimTarget m (object a e m.coll) d) → Shut sh st → RecordsAgree opened sh st
     → RecordsAgree opened sh (did sh st p Go (Inside x calm) (phase.Begin (begin.ClaimTarget m (object a e m.coll) d)) told (Exchange (place.Directory m.coll m.target) (word.Directory d) (word.Directory dir.Claimed)))
 claim_target opened sh st p x calm m a e d told in_n at_sec at_call h r = in_world (RecordsAgree opened sh) (apply (Exchange (place.Directory m.coll m.target) (word.Directory d) (word.Directory dir.Claimed)) st.memory) (put_stand st.stands p (moved sh p (st.stands p) (Inside x calm) (phase.Begin (begin.ClaimTarget m (object a e m.coll) d)) Go told (seen (Exchange (place.Directory m.coll m.target) (word.Directory d) (word.Directory dir.Claimed)) st.memory))) st.world
@@ -72,7 +72,7 @@ claim_target opened sh st p x calm m a e d told in_n at_sec at_call h r = in_wor
       j_fields = λ i c' a' e' s' k' n' li is lt. grind (arith, nat_tests, r.j_fields i c' a' e' s' k' n' li, (calls h).c_origin p m.coll m.source a e in_n, (calls h).c_source p m.coll m.source a e in_n, (calls h).c_resting p m.coll m.source a e in_n, below sh st h p in_n (begin.ClaimTarget m (object a e m.coll) d) at_call, (calls h).calls p in_n, sections sh st h p in_n);
     })
 
--- kind 16
+-- kind StoreField
 pub blank_field : (opened : ℕ) (sh : Layout) (st : S.State) (p : ℕ) (x : ℕ) (calm : Bool) (m : Walk) (a : ℕ) (e : ℕ) (f : ℕ) (told : ℕ) → p < sh.passes → (st.stands p).section ≡ Inside x calm → (st.stands p).phase ≡ phase.Begin (begin.BlankField m (object a e m.coll) f) → Shut sh st → RecordsAgree opened sh st
     → RecordsAgree opened sh (did sh st p Go (Inside x calm) (phase.Begin (begin.BlankField m (object a e m.coll) f)) told (Store (place.Field m.coll m.target f) (word.Plain BLANK)))
 blank_field opened sh st p x calm m a e f told in_n at_sec at_call h r = in_world (RecordsAgree opened sh) (apply (Store (place.Field m.coll m.target f) (word.Plain BLANK)) st.memory) (put_stand st.stands p (moved sh p (st.stands p) (Inside x calm) (phase.Begin (begin.BlankField m (object a e m.coll) f)) Go told (seen (Store (place.Field m.coll m.target f) (word.Plain BLANK)) st.memory))) st.world
@@ -96,7 +96,7 @@ blank_field opened sh st p x calm m a e f told in_n at_sec at_call h r = in_worl
       j_fields = λ i c' a' e' s' k' n' li is lt. grind (arith, nat_tests, r.j_fields i c' a' e' s' k' n' li, (calls h).c_slot p m.coll m.target in_n, (calls h).c_origin p m.coll m.source a e in_n, (calls h).c_source p m.coll m.source a e in_n, (calls h).c_resting p m.coll m.source a e in_n, r.c_blanks p m.coll m.target f k' in_n, below sh st h p in_n (begin.BlankField m (object a e m.coll) f) at_call, (calls h).calls p in_n, sections sh st h p in_n, (copies h).j_for i c' a' e' s' n' li);
     })
 
--- kind 15
+-- kind StoreBack
 pub name_target : (opened : ℕ) (sh : Layout) (st : S.State) (p : ℕ) (x : ℕ) (calm : Bool) (m : Walk) (a : ℕ) (e : ℕ) (told : ℕ) → p < sh.passes → (st.stands p).section ≡ Inside x calm → (st.stands p).phase ≡ phase.Begin (begin.StoreBack m (object a e m.coll)) → Shut sh st → RecordsAgree opened sh st
     → RecordsAgree opened sh (did sh st p Go (Inside x calm) (phase.Begin (begin.StoreBack m (object a e m.coll))) told (Store (place.Back m.coll m.target) (word.Back (Some (object a e m.coll)))))
 name_target opened sh st p x calm m a e told in_n at_sec at_call h r = in_world (RecordsAgree opened sh) (apply (Store (place.Back m.coll m.target) (word.Back (Some (object a e m.coll)))) st.memory) (put_stand st.stands p (moved sh p (st.stands p) (Inside x calm) (phase.Begin (begin.StoreBack m (object a e m.coll))) Go told (seen (Store (place.Back m.coll m.target) (word.Back (Some (object a e m.coll)))) st.memory))) st.world
@@ -120,7 +120,7 @@ name_target opened sh st p x calm m a e told in_n at_sec at_call h r = in_world 
       j_fields = λ i c' a' e' s' k' n' li is lt. grind (arith, nat_tests, r.j_fields i c' a' e' s' k' n' li, (calls h).c_slot p m.coll m.target in_n, (calls h).c_origin p m.coll m.source a e in_n, (calls h).c_source p m.coll m.source a e in_n, (calls h).c_resting p m.coll m.source a e in_n, r.c_blanks p m.coll m.target (width_of sh m.coll) k' in_n, below sh st h p in_n (begin.StoreBack m (object a e m.coll)) at_call, (calls h).calls p in_n, sections sh st h p in_n);
     })
 
--- kind 27
+-- kind StoreForward
 pub lead_source : (opened : ℕ) (sh : Layout) (st : S.State) (p : ℕ) (x : ℕ) (calm : Bool) (m : Walk) (a : ℕ) (e : ℕ) (told : ℕ) → p < sh.passes → (st.stands p).section ≡ Inside x calm → (st.stands p).phase ≡ phase.Begin (begin.StoreForward m (object a e m.coll)) → Shut sh st → RecordsAgree opened sh st
     → RecordsAgree opened sh (did sh st p Go (Inside x calm) (phase.Begin (begin.StoreForward m (object a e m.coll))) told (Store (place.Forward m.coll m.source) (word.Forward m.target)))
 lead_source opened sh st p x calm m a e told in_n at_sec at_call h r = in_world (RecordsAgree opened sh) (apply (Store (place.Forward m.coll m.source) (word.Forward m.target)) st.memory) (put_stand st.stands p (moved sh p (st.stands p) (Inside x calm) (phase.Begin (begin.StoreForward m (object a e m.coll))) Go told (seen (Store (place.Forward m.coll m.source) (word.Forward m.target)) st.memory))) st.world
@@ -144,7 +144,7 @@ lead_source opened sh st p x calm m a e told in_n at_sec at_call h r = in_world 
       j_fields = λ i c' a' e' s' k' n' li is lt. grind (arith, nat_tests, r.j_fields i c' a' e' s' k' n' li, (calls h).c_slot p m.coll m.target in_n, (calls h).c_named p m.coll m.target a e in_n, (calls h).c_origin p m.coll m.source a e in_n, (calls h).c_source p m.coll m.source a e in_n, (calls h).c_resting p m.coll m.source a e in_n, r.c_blanks p m.coll m.target (width_of sh m.coll) k' in_n, below sh st h p in_n (begin.StoreForward m (object a e m.coll)) at_call, (calls h).calls p in_n, sections sh st h p in_n, (moves h).begin_copy p i m.coll m.source a' e' s' n' in_n li);
     })
 
--- kind 28
+-- kind StoreIncoming
 pub store_incoming : (opened : ℕ) (sh : Layout) (st : S.State) (p : ℕ) (x : ℕ) (calm : Bool) (m : Walk) (a : ℕ) (e : ℕ) (told : ℕ) → p < sh.passes → (st.stands p).section ≡ Inside x calm → (st.stands p).phase ≡ phase.Begin (begin.StoreIncoming m (object a e m.coll)) → Shut sh st → RecordsAgree opened sh st
     → RecordsAgree opened sh (did sh st p Go (Inside x calm) (phase.Begin (begin.StoreIncoming m (object a e m.coll))) told (Store (place.Directory m.coll m.target) (word.Directory dir.Incoming)))
 store_incoming opened sh st p x calm m a e told in_n at_sec at_call h r = in_world (RecordsAgree opened sh) (apply (Store (place.Directory m.coll m.target) (word.Directory dir.Incoming)) st.memory) (put_stand st.stands p (moved sh p (st.stands p) (Inside x calm) (phase.Begin (begin.StoreIncoming m (object a e m.coll))) Go told (seen (Store (place.Directory m.coll m.target) (word.Directory dir.Incoming)) st.memory))) st.world
@@ -168,7 +168,7 @@ store_incoming opened sh st p x calm m a e told in_n at_sec at_call h r = in_wor
       j_fields = λ i c' a' e' s' k' n' li is lt. grind (arith, nat_tests, r.j_fields i c' a' e' s' k' n' li, (calls h).c_slot p m.coll m.target in_n, (calls h).c_named p m.coll m.target a e in_n, (calls h).c_leads p m.coll m.source m.target in_n, (calls h).c_origin p m.coll m.source a e in_n, (calls h).c_source p m.coll m.source a e in_n, (calls h).c_resting p m.coll m.source a e in_n, r.c_blanks p m.coll m.target (width_of sh m.coll) k' in_n, below sh st h p in_n (begin.StoreIncoming m (object a e m.coll)) at_call, (calls h).calls p in_n, sections sh st h p in_n);
     })
 
--- kind 29
+-- kind Freeze
 pub freeze : (opened : ℕ) (sh : Layout) (st : S.State) (p : ℕ) (x : ℕ) (calm : Bool) (m : Walk) (a : ℕ) (e : ℕ) (told : ℕ) → p < sh.passes → (st.stands p).section ≡ Inside x calm → (st.stands p).phase ≡ phase.Begin (begin.Freeze m (object a e m.coll)) → Shut sh st → RecordsAgree opened sh st
     → RecordsAgree opened sh (did sh st p Go (Inside x calm) (phase.Begin (begin.Freeze m (object a e m.coll))) told (Exchange (place.Entry m.coll e) (word.Entry (state.Present a m.source)) (word.Entry (state.Frozen a m.source))))
 freeze opened sh st p x calm m a e told in_n at_sec at_call h r = in_world (RecordsAgree opened sh) (apply (Exchange (place.Entry m.coll e) (word.Entry (state.Present a m.source)) (word.Entry (state.Frozen a m.source))) st.memory) (put_stand st.stands p (moved sh p (st.stands p) (Inside x calm) (phase.Begin (begin.Freeze m (object a e m.coll))) Go told (seen (Exchange (place.Entry m.coll e) (word.Entry (state.Present a m.source)) (word.Entry (state.Frozen a m.source))) st.memory))) st.world
@@ -192,7 +192,7 @@ freeze opened sh st p x calm m a e told in_n at_sec at_call h r = in_world (Reco
       j_fields = λ i c' a' e' s' k' n' li is lt. grind (arith, nat_tests, r.j_fields i c' a' e' s' k' n' li);
     })
 
--- kind 22
+-- kind LeaveSlot
 pub begin_gives : (opened : ℕ) (sh : Layout) (st : S.State) (p : ℕ) (x : ℕ) (calm : Bool) (m : Walk) (told : ℕ) → p < sh.passes → (st.stands p).section ≡ Inside x calm → (st.stands p).phase ≡ phase.Begin (begin.GiveUp m) → Shut sh st → RecordsAgree opened sh st
     → RecordsAgree opened sh (did sh st p Go (Inside x calm) (phase.Begin (begin.GiveUp m)) told (Store (place.Directory m.coll m.target) (word.Directory (dir.Limbo (x + 1)))))
 begin_gives opened sh st p x calm m told in_n at_sec at_call h r = in_world (RecordsAgree opened sh) (apply (Store (place.Directory m.coll m.target) (word.Directory (dir.Limbo (x + 1)))) st.memory) (put_stand st.stands p (moved sh p (st.stands p) (Inside x calm) (phase.Begin (begin.GiveUp m)) Go told (seen (Store (place.Directory m.coll m.target) (word.Directory (dir.Limbo (x + 1)))) st.memory))) st.world

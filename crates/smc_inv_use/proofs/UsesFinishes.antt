@@ -27,7 +27,7 @@ use Rattle.smc_core.specs.Words.{gone}
 use Rattle.smc_inv_use.specs.Uses.{UsesAgree}
 use Rattle.smc_inv_use.proofs.UseLaws.{kept_use, moves_left, settled_use}
 
--- kind 10
+-- kind LoadDirectory
 pub starts_finish : (sh : Layout) (st : S.State) (p : ℕ) (x : ℕ) (calm : Bool) (b : ℕ) (c : ℕ) (told : ℕ) → p < sh.passes → (st.stands p).section ≡ Inside x calm → (st.stands p).phase ≡ phase.Idle → (st.stands p).round ≡ Some (record { bound = b; coll = c }) → is_early x b ≡ false → Shut sh st → UsesAgree sh st
     → UsesAgree sh (did sh st p (Start call.Finish) (Inside x calm) phase.Idle told (Load (place.Directory c 0)))
 starts_finish sh st p x calm b c told in_n at_sec at_call pre1 pre2 h r = record {
@@ -36,7 +36,7 @@ starts_finish sh st p x calm b c told in_n at_sec at_call pre1 pre2 h r = record
   u_moves = λ i c' s' t' a' e' li is nm inc. grind (arith, nat_tests, r.u_moves i c' s' t' a' e' li, (calls h).calls p in_n, sections sh st h p in_n);
 }
 
--- kind 8
+-- kind LoadSection
 pub finish_early : (sh : Layout) (st : S.State) (p : ℕ) (x : ℕ) (calm : Bool) (b : ℕ) (c : ℕ) (told : ℕ) → p < sh.passes → (st.stands p).section ≡ Inside x calm → (st.stands p).phase ≡ phase.Idle → (st.stands p).round ≡ Some (record { bound = b; coll = c }) → is_early x b ≡ true → Shut sh st → UsesAgree sh st
     → UsesAgree sh (did sh st p (Start call.Finish) (Inside x calm) phase.Idle told (Load (place.Section p)))
 finish_early sh st p x calm b c told in_n at_sec at_call pre1 pre2 h r = record {
@@ -45,7 +45,7 @@ finish_early sh st p x calm b c told in_n at_sec at_call pre1 pre2 h r = record 
   u_moves = λ i c' s' t' a' e' li is nm inc. grind (arith, nat_tests, r.u_moves i c' s' t' a' e' li, (calls h).calls p in_n, sections sh st h p in_n);
 }
 
--- kind 10
+-- kind LoadDirectory
 pub finish_dir : (sh : Layout) (st : S.State) (p : ℕ) (x : ℕ) (calm : Bool) (g : Targets) (told : ℕ) → p < sh.passes → (st.stands p).section ≡ Inside x calm → (st.stands p).phase ≡ phase.Finish (finish.Directory g) → Shut sh st → UsesAgree sh st
     → UsesAgree sh (did sh st p Go (Inside x calm) (phase.Finish (finish.Directory g)) told (Load (place.Directory g.coll g.slot)))
 finish_dir sh st p x calm g told in_n at_sec at_call h r = record {
@@ -54,7 +54,7 @@ finish_dir sh st p x calm g told in_n at_sec at_call h r = record {
   u_moves = λ i c' s' t' a' e' li is nm inc. grind (arith, nat_tests, r.u_moves i c' s' t' a' e' li, (calls h).calls p in_n, sections sh st h p in_n);
 }
 
--- kind 24
+-- kind LoadBack
 pub finish_back : (sh : Layout) (st : S.State) (p : ℕ) (x : ℕ) (calm : Bool) (g : Targets) (told : ℕ) → p < sh.passes → (st.stands p).section ≡ Inside x calm → (st.stands p).phase ≡ phase.Finish (finish.Back g) → Shut sh st → UsesAgree sh st
     → UsesAgree sh (did sh st p Go (Inside x calm) (phase.Finish (finish.Back g)) told (Load (place.Back g.coll g.slot)))
 finish_back sh st p x calm g told in_n at_sec at_call h r = record {
@@ -63,7 +63,7 @@ finish_back sh st p x calm g told in_n at_sec at_call h r = record {
   u_moves = λ i c' s' t' a' e' li is nm inc. grind (arith, nat_tests, r.u_moves i c' s' t' a' e' li, (calls h).c_target p g.coll g.slot in_n, (calls h).calls p in_n, sections sh st h p in_n);
 }
 
--- kind 13
+-- kind LoadEntry
 pub finish_entry : (sh : Layout) (st : S.State) (p : ℕ) (x : ℕ) (calm : Bool) (g : Targets) (a : ℕ) (e : ℕ) (told : ℕ) → p < sh.passes → (st.stands p).section ≡ Inside x calm → (st.stands p).phase ≡ phase.Finish (finish.Entry g (object a e g.coll)) → Shut sh st → UsesAgree sh st
     → UsesAgree sh (did sh st p Go (Inside x calm) (phase.Finish (finish.Entry g (object a e g.coll))) told (Load (place.Entry g.coll e)))
 finish_entry sh st p x calm g a e told in_n at_sec at_call h r = record {
@@ -72,7 +72,7 @@ finish_entry sh st p x calm g a e told in_n at_sec at_call h r = record {
   u_moves = λ i c' s' t' a' e' li is nm inc. grind (arith, nat_tests, r.u_moves i c' s' t' a' e' li, (calls h).c_named p g.coll g.slot a e in_n, (calls h).c_target p g.coll g.slot in_n, (calls h).calls p in_n, sections sh st h p in_n);
 }
 
--- kind 31
+-- kind Lock
 pub lock : (sh : Layout) (st : S.State) (p : ℕ) (x : ℕ) (calm : Bool) (g : Targets) (a : ℕ) (e : ℕ) (q : ℕ) (told : ℕ) → p < sh.passes → (st.stands p).section ≡ Inside x calm → (st.stands p).phase ≡ phase.Finish (finish.Lock g (object a e g.coll) q) → Shut sh st → UsesAgree sh st
     → UsesAgree sh (did sh st p Go (Inside x calm) (phase.Finish (finish.Lock g (object a e g.coll) q)) told (Exchange (place.Entry g.coll e) (word.Entry (state.Frozen a q)) (word.Entry (state.Locked a q))))
 lock sh st p x calm g a e q told in_n at_sec at_call h r = record {
@@ -81,7 +81,7 @@ lock sh st p x calm g a e q told in_n at_sec at_call h r = record {
   u_moves = λ i c' s' t' a' e' li is nm inc. grind (arith, nat_tests, r.u_moves i c' s' t' a' e' li, (calls h).c_named p g.coll g.slot a e in_n, (calls h).c_target p g.coll g.slot in_n, (calls h).c_tries p g.coll q a e in_n, (calls h).calls p in_n, sections sh st h p in_n, (objects h).standing g.coll a e q);
 }
 
--- kind 32
+-- kind LoadForward
 pub f_fwd : (sh : Layout) (st : S.State) (p : ℕ) (x : ℕ) (calm : Bool) (g : Targets) (a : ℕ) (e : ℕ) (q : ℕ) (told : ℕ) → p < sh.passes → (st.stands p).section ≡ Inside x calm → (st.stands p).phase ≡ phase.Finish (finish.Move g (object a e g.coll) q copy.Target) → Shut sh st → UsesAgree sh st
     → UsesAgree sh (did sh st p Go (Inside x calm) (phase.Finish (finish.Move g (object a e g.coll) q copy.Target)) told (Load (place.Forward g.coll q)))
 f_fwd sh st p x calm g a e q told in_n at_sec at_call h r = record {
@@ -90,7 +90,7 @@ f_fwd sh st p x calm g a e q told in_n at_sec at_call h r = record {
   u_moves = λ i c' s' t' a' e' li is nm inc. grind (arith, nat_tests, r.u_moves i c' s' t' a' e' li, (calls h).c_leads p g.coll q g.slot in_n, (calls h).c_leaves p g.coll q in_n, (calls h).c_apart p g.coll q a e in_n, (copies h).j_named p g.coll a e q copy.Target in_n, (copies h).j_led p g.coll a e q copy.Target in_n, (copies h).j_entry p g.coll a e q copy.Target in_n, (copies h).j_locked p g.coll a e q copy.Target in_n, (copies h).j_left p g.coll a e q copy.Target in_n, (copies h).j_for p g.coll a e q copy.Target in_n, (copies h).j_back p g.coll a e q copy.Target in_n, (calls h).calls p in_n, sections sh st h p in_n);
 }
 
--- kind 19
+-- kind LoadField
 pub f_read : (sh : Layout) (st : S.State) (p : ℕ) (x : ℕ) (calm : Bool) (g : Targets) (a : ℕ) (e : ℕ) (q : ℕ) (t : ℕ) (f : ℕ) (told : ℕ) → p < sh.passes → (st.stands p).section ≡ Inside x calm → (st.stands p).phase ≡ phase.Finish (finish.Move g (object a e g.coll) q (copy.Load t f)) → Shut sh st → UsesAgree sh st
     → UsesAgree sh (did sh st p Go (Inside x calm) (phase.Finish (finish.Move g (object a e g.coll) q (copy.Load t f))) told (Load (place.Field g.coll q f)))
 f_read sh st p x calm g a e q t f told in_n at_sec at_call h r = record {
@@ -99,7 +99,7 @@ f_read sh st p x calm g a e q t f told in_n at_sec at_call h r = record {
   u_moves = λ i c' s' t' a' e' li is nm inc. grind (arith, nat_tests, r.u_moves i c' s' t' a' e' li, (calls h).c_leads p g.coll q g.slot in_n, (calls h).c_leaves p g.coll q in_n, (calls h).c_apart p g.coll q a e in_n, (copies h).j_named p g.coll a e q (copy.Load t f) in_n, (copies h).j_led p g.coll a e q (copy.Load t f) in_n, (copies h).j_entry p g.coll a e q (copy.Load t f) in_n, (copies h).j_locked p g.coll a e q (copy.Load t f) in_n, (copies h).j_left p g.coll a e q (copy.Load t f) in_n, (copies h).j_for p g.coll a e q (copy.Load t f) in_n, (copies h).j_back p g.coll a e q (copy.Load t f) in_n, (calls h).calls p in_n, sections sh st h p in_n);
 }
 
--- kind 33
+-- kind CopyField
 pub f_put : (sh : Layout) (st : S.State) (p : ℕ) (x : ℕ) (calm : Bool) (g : Targets) (a : ℕ) (e : ℕ) (q : ℕ) (t : ℕ) (f : ℕ) (w : ℕ) (told : ℕ) → p < sh.passes → (st.stands p).section ≡ Inside x calm → (st.stands p).phase ≡ phase.Finish (finish.Move g (object a e g.coll) q (copy.Put t f w)) → Shut sh st → UsesAgree sh st
     → UsesAgree sh (did sh st p Go (Inside x calm) (phase.Finish (finish.Move g (object a e g.coll) q (copy.Put t f w))) told (Exchange (place.Field g.coll t f) (word.Plain BLANK) (word.Plain w)))
 f_put sh st p x calm g a e q t f w told in_n at_sec at_call h r = record {
@@ -108,7 +108,7 @@ f_put sh st p x calm g a e q t f w told in_n at_sec at_call h r = record {
   u_moves = λ i c' s' t' a' e' li is nm inc. grind (arith, nat_tests, r.u_moves i c' s' t' a' e' li, (calls h).c_leads p g.coll q g.slot in_n, (calls h).c_leaves p g.coll q in_n, (calls h).c_apart p g.coll q a e in_n, (copies h).j_named p g.coll a e q (copy.Put t f w) in_n, (copies h).j_led p g.coll a e q (copy.Put t f w) in_n, (copies h).j_entry p g.coll a e q (copy.Put t f w) in_n, (copies h).j_locked p g.coll a e q (copy.Put t f w) in_n, (copies h).j_left p g.coll a e q (copy.Put t f w) in_n, (copies h).j_for p g.coll a e q (copy.Put t f w) in_n, (copies h).j_back p g.coll a e q (copy.Put t f w) in_n, (calls h).calls p in_n, sections sh st h p in_n);
 }
 
--- kind 34
+-- kind Swing
 pub f_swing : (sh : Layout) (st : S.State) (p : ℕ) (x : ℕ) (calm : Bool) (g : Targets) (a : ℕ) (e : ℕ) (q : ℕ) (t : ℕ) (told : ℕ) → p < sh.passes → (st.stands p).section ≡ Inside x calm → (st.stands p).phase ≡ phase.Finish (finish.Move g (object a e g.coll) q (copy.Swing t)) → Shut sh st → UsesAgree sh st
     → UsesAgree sh (did sh st p Go (Inside x calm) (phase.Finish (finish.Move g (object a e g.coll) q (copy.Swing t))) told (Exchange (place.Entry g.coll e) (word.Entry (state.Locked a q)) (word.Entry (state.Present a t))))
 f_swing sh st p x calm g a e q t told in_n at_sec at_call h r = record {
@@ -117,7 +117,7 @@ f_swing sh st p x calm g a e q t told in_n at_sec at_call h r = record {
   u_moves = λ i c' s' t' a' e' li is nm inc. grind (arith, nat_tests, r.u_moves i c' s' t' a' e' li, (calls h).c_leads p g.coll q g.slot in_n, (calls h).c_leaves p g.coll q in_n, (calls h).c_apart p g.coll q a e in_n, (copies h).j_named p g.coll a e q (copy.Swing t) in_n, (copies h).j_led p g.coll a e q (copy.Swing t) in_n, (copies h).j_entry p g.coll a e q (copy.Swing t) in_n, (copies h).j_locked p g.coll a e q (copy.Swing t) in_n, (copies h).j_left p g.coll a e q (copy.Swing t) in_n, (copies h).j_for p g.coll a e q (copy.Swing t) in_n, (copies h).j_back p g.coll a e q (copy.Swing t) in_n, (calls h).calls p in_n, sections sh st h p in_n, (calls h).c_leads i c' s' t' li, (calls h).c_moved i c' s' a' e' li, moves_left (st.stands i).phase c' s' t');
 }
 
--- kind 35
+-- kind Settle
 pub settle : (sh : Layout) (st : S.State) (p : ℕ) (x : ℕ) (calm : Bool) (g : Targets) (q : ℕ) (told : ℕ) → p < sh.passes → (st.stands p).section ≡ Inside x calm → (st.stands p).phase ≡ phase.Finish (finish.Settle g q) → Shut sh st → UsesAgree sh st
     → UsesAgree sh (did sh st p Go (Inside x calm) (phase.Finish (finish.Settle g q)) told (Exchange (place.Directory g.coll g.slot) (word.Directory dir.Incoming) (word.Directory dir.Valid)))
 settle sh st p x calm g q told in_n at_sec at_call h r = record {
@@ -126,7 +126,7 @@ settle sh st p x calm g q told in_n at_sec at_call h r = record {
   u_moves = λ i c' s' t' a' e' li is nm inc. grind (arith, nat_tests, r.u_moves i c' s' t' a' e' li, (calls h).c_leaves p g.coll q in_n, (calls h).c_ends p g.coll q g.slot in_n, (calls h).c_apart p g.coll q a' e' in_n, (calls h).c_moved p g.coll q a' e' in_n, (calls h).calls p in_n, sections sh st h p in_n);
 }
 
--- kind 22
+-- kind LeaveSlot
 pub leave_source : (sh : Layout) (st : S.State) (p : ℕ) (x : ℕ) (calm : Bool) (g : Targets) (q : ℕ) (told : ℕ) → p < sh.passes → (st.stands p).section ≡ Inside x calm → (st.stands p).phase ≡ phase.Finish (finish.LeaveSource g q) → Shut sh st → UsesAgree sh st
     → UsesAgree sh (did sh st p Go (Inside x calm) (phase.Finish (finish.LeaveSource g q)) told (Store (place.Directory g.coll q) (word.Directory (dir.Limbo (x + 1)))))
 leave_source sh st p x calm g q told in_n at_sec at_call h r = record {
@@ -135,7 +135,7 @@ leave_source sh st p x calm g q told in_n at_sec at_call h r = record {
   u_moves = λ i c' s' t' a' e' li is nm inc. grind (arith, nat_tests, r.u_moves i c' s' t' a' e' li, (calls h).c_leaves p g.coll q in_n, (calls h).c_passed p g.coll g.slot in_n, (calls h).c_apart p g.coll q a' e' in_n, (calls h).c_moved p g.coll q a' e' in_n, (calls h).calls p in_n, sections sh st h p in_n);
 }
 
--- kind 22
+-- kind LeaveSlot
 pub finish_gives : (sh : Layout) (st : S.State) (p : ℕ) (x : ℕ) (calm : Bool) (g : Targets) (gone : Bool) (told : ℕ) → p < sh.passes → (st.stands p).section ≡ Inside x calm → (st.stands p).phase ≡ phase.Finish (finish.GiveUp g gone) → Shut sh st → UsesAgree sh st
     → UsesAgree sh (did sh st p Go (Inside x calm) (phase.Finish (finish.GiveUp g gone)) told (Store (place.Directory g.coll g.slot) (word.Directory (dir.Limbo (x + 1)))))
 finish_gives sh st p x calm g gone told in_n at_sec at_call h r = record {
@@ -144,7 +144,7 @@ finish_gives sh st p x calm g gone told in_n at_sec at_call h r = record {
   u_moves = λ i c' s' t' a' e' li is nm inc. grind (arith, nat_tests, r.u_moves i c' s' t' a' e' li, (calls h).c_target p g.coll g.slot in_n, (calls h).c_loose p g.coll g.slot a' e' in_n, (calls h).calls p in_n, sections sh st h p in_n);
 }
 
--- kind 36
+-- kind CloseRound
 pub finish_ends : (sh : Layout) (st : S.State) (p : ℕ) (x : ℕ) (calm : Bool) (g : Targets) (told : ℕ) → p < sh.passes → (st.stands p).section ≡ Inside x calm → (st.stands p).phase ≡ phase.Finish (finish.End g) → Shut sh st → UsesAgree sh st
     → UsesAgree sh (did sh st p Go (Inside x calm) (phase.Finish (finish.End g)) told (Store place.Round (word.Round None)))
 finish_ends sh st p x calm g told in_n at_sec at_call h r = record {

@@ -23,7 +23,7 @@ use Rattle.smc_rules.specs.Memory.{apply, seen}
 use Rattle.smc_inv_use.specs.Uses.{UsesAgree}
 use Rattle.smc_inv_use.proofs.UseLaws.{kept_use, gone-stands}
 
--- kind 19
+-- kind LoadField
 pub read : (sh : Layout) (st : S.State) (p : ℕ) (x : ℕ) (calm : Bool) (c : ℕ) (a : ℕ) (e : ℕ) (q : ℕ) (f : ℕ) (told : ℕ) → p < sh.passes → (st.stands p).section ≡ Inside x calm → (st.stands p).phase ≡ phase.Idle → held_slot (st.stands p).held (object a e c) ≡ Some q → nat_lt f (width_of sh c) ≡ true → Shut sh st → UsesAgree sh st
     → UsesAgree sh (did sh st p (Start (call.Read (object a e c) f)) (Inside x calm) phase.Idle told (Load (place.Field c q f)))
 read sh st p x calm c a e q f told in_n at_sec at_call pre1 pre2 h r = record {
@@ -32,7 +32,7 @@ read sh st p x calm c a e q f told in_n at_sec at_call pre1 pre2 h r = record {
   u_moves = λ i c' s' t' a' e' li is nm inc. grind (arith, nat_tests, r.u_moves i c' s' t' a' e' li, (calls h).calls p in_n, sections sh st h p in_n);
 }
 
--- kind 20
+-- kind WriteField
 pub write : (sh : Layout) (st : S.State) (p : ℕ) (x : ℕ) (calm : Bool) (c : ℕ) (a : ℕ) (e : ℕ) (q : ℕ) (f : ℕ) (w : ℕ) (told : ℕ) → p < sh.passes → (st.stands p).section ≡ Inside x calm → (st.stands p).phase ≡ phase.Idle → held_slot (st.stands p).held (object a e c) ≡ Some q → (nat_lt f (width_of sh c) && is_value w) ≡ true → Shut sh st → UsesAgree sh st
     → UsesAgree sh (did sh st p (Start (call.Write (object a e c) f w)) (Inside x calm) phase.Idle told (Store (place.Field c q f) (word.Plain w)))
 write sh st p x calm c a e q f w told in_n at_sec at_call pre1 pre2 h r = record {
@@ -41,7 +41,7 @@ write sh st p x calm c a e q f w told in_n at_sec at_call pre1 pre2 h r = record
   u_moves = λ i c' s' t' a' e' li is nm inc. grind (arith, nat_tests, r.u_moves i c' s' t' a' e' li, (objects h).held p c a e q in_n pre1, (calls h).calls p in_n, sections sh st h p in_n);
 }
 
--- kind 21
+-- kind MarkGone
 pub starts_remove : (sh : Layout) (st : S.State) (p : ℕ) (x : ℕ) (calm : Bool) (c : ℕ) (a : ℕ) (e : ℕ) (q : ℕ) (told : ℕ) → p < sh.passes → (st.stands p).section ≡ Inside x calm → (st.stands p).phase ≡ phase.Idle → held_slot (st.stands p).held (object a e c) ≡ Some q → Shut sh st → UsesAgree sh st
     → UsesAgree sh (did sh st p (Start (call.Remove (object a e c))) (Inside x calm) phase.Idle told (MarkGone c e))
 starts_remove sh st p x calm c a e q told in_n at_sec at_call pre1 h r = record {
@@ -50,7 +50,7 @@ starts_remove sh st p x calm c a e q told in_n at_sec at_call pre1 h r = record 
   u_moves = λ i c' s' t' a' e' li is nm inc. grind (arith, nat_tests, r.u_moves i c' s' t' a' e' li, (objects h).held p c a e q in_n pre1, (calls h).calls p in_n, sections sh st h p in_n, gone-stands (state_in st.memory c e));
 }
 
--- kind 22
+-- kind LeaveSlot
 pub leave_slot : (sh : Layout) (st : S.State) (p : ℕ) (x : ℕ) (calm : Bool) (c : ℕ) (a : ℕ) (e : ℕ) (q : ℕ) (told : ℕ) → p < sh.passes → (st.stands p).section ≡ Inside x calm → (st.stands p).phase ≡ phase.Remove (remove.LeaveSlot q (object a e c)) → Shut sh st → UsesAgree sh st
     → UsesAgree sh (did sh st p Go (Inside x calm) (phase.Remove (remove.LeaveSlot q (object a e c))) told (Store (place.Directory c q) (word.Directory (dir.Limbo (x + 1)))))
 leave_slot sh st p x calm c a e q told in_n at_sec at_call h r = record {
@@ -59,7 +59,7 @@ leave_slot sh st p x calm c a e q told in_n at_sec at_call h r = record {
   u_moves = λ i c' s' t' a' e' li is nm inc. grind (arith, nat_tests, r.u_moves i c' s' t' a' e' li, (calls h).c_removes p c a e in_n, (calls h).c_leaving p c q a e in_n, (calls h).c_limbos p c q a e in_n, (calls h).calls p in_n, sections sh st h p in_n);
 }
 
--- kind 23
+-- kind FreeEntry
 pub free_entry : (sh : Layout) (st : S.State) (p : ℕ) (x : ℕ) (calm : Bool) (c : ℕ) (a : ℕ) (e : ℕ) (told : ℕ) → p < sh.passes → (st.stands p).section ≡ Inside x calm → (st.stands p).phase ≡ phase.Remove (remove.FreeEntry (object a e c)) → Shut sh st → UsesAgree sh st
     → UsesAgree sh (did sh st p Go (Inside x calm) (phase.Remove (remove.FreeEntry (object a e c))) told (Store (place.Entry c e) (word.Entry (state.Free a (x + 1)))))
 free_entry sh st p x calm c a e told in_n at_sec at_call h r = record {

@@ -17,7 +17,7 @@ use Rattle.smc_rules.specs.Memory.{apply, seen}
 use Rattle.smc_inv_use.specs.Uses.{UsesAgree}
 use Rattle.smc_inv_use.proofs.UseLaws.{kept_use}
 
--- kind 1
+-- kind LoadEpoch
 pub enter : (sh : Layout) (st : S.State) (p : ℕ) (told : ℕ) → p < sh.passes → (st.stands p).section ≡ Outside → (st.stands p).phase ≡ phase.Idle → Shut sh st → UsesAgree sh st
     → UsesAgree sh (did sh st p (Start call.Enter) Outside phase.Idle told (Load place.Epoch))
 enter sh st p told in_n at_sec at_call h r = record {
@@ -26,7 +26,7 @@ enter sh st p told in_n at_sec at_call h r = record {
   u_moves = λ i c' s' t' a' e' li is nm inc. grind (arith, nat_tests, r.u_moves i c' s' t' a' e' li);
 }
 
--- kind 2
+-- kind Announce
 pub announce : (sh : Layout) (st : S.State) (p : ℕ) (v : ℕ) (told : ℕ) → p < sh.passes → (st.stands p).section ≡ Loaded v → (st.stands p).phase ≡ phase.Entering → Shut sh st → UsesAgree sh st
     → UsesAgree sh (did sh st p Go (Loaded v) phase.Entering told (Store (place.Section p) (word.Plain v)))
 announce sh st p v told in_n at_sec at_call h r = record {
@@ -35,7 +35,7 @@ announce sh st p v told in_n at_sec at_call h r = record {
   u_moves = λ i c' s' t' a' e' li is nm inc. grind (arith, nat_tests, r.u_moves i c' s' t' a' e' li, (calls h).calls p in_n, sections sh st h p in_n);
 }
 
--- kind 3
+-- kind LoadEpochAgain
 pub again : (sh : Layout) (st : S.State) (p : ℕ) (v : ℕ) (told : ℕ) → p < sh.passes → (st.stands p).section ≡ Announced v → (st.stands p).phase ≡ phase.Entering → Shut sh st → UsesAgree sh st
     → UsesAgree sh (did sh st p Go (Announced v) phase.Entering told (Load place.Epoch))
 again sh st p v told in_n at_sec at_call h r = record {
@@ -44,7 +44,7 @@ again sh st p v told in_n at_sec at_call h r = record {
   u_moves = λ i c' s' t' a' e' li is nm inc. grind (arith, nat_tests, r.u_moves i c' s' t' a' e' li, (calls h).calls p in_n, sections sh st h p in_n);
 }
 
--- kind 4
+-- kind AnnounceAgain
 pub lasting : (sh : Layout) (st : S.State) (p : ℕ) (v : ℕ) (z : ℕ) (told : ℕ) → p < sh.passes → (st.stands p).section ≡ Again v z → (st.stands p).phase ≡ phase.Entering → Shut sh st → UsesAgree sh st
     → UsesAgree sh (did sh st p Go (Again v z) phase.Entering told (Store (place.Section p) (word.Plain z)))
 lasting sh st p v z told in_n at_sec at_call h r = record {
@@ -53,7 +53,7 @@ lasting sh st p v z told in_n at_sec at_call h r = record {
   u_moves = λ i c' s' t' a' e' li is nm inc. grind (arith, nat_tests, r.u_moves i c' s' t' a' e' li, (calls h).calls p in_n, sections sh st h p in_n);
 }
 
--- kind 5
+-- kind LoadRound
 pub entered : (sh : Layout) (st : S.State) (p : ℕ) (z : ℕ) (told : ℕ) → p < sh.passes → (st.stands p).section ≡ Lasting z → (st.stands p).phase ≡ phase.Entering → Shut sh st → UsesAgree sh st
     → UsesAgree sh (did sh st p Go (Lasting z) phase.Entering told (Load place.Round))
 entered sh st p z told in_n at_sec at_call h r = record {
@@ -62,7 +62,7 @@ entered sh st p z told in_n at_sec at_call h r = record {
   u_moves = λ i c' s' t' a' e' li is nm inc. grind (arith, nat_tests, r.u_moves i c' s' t' a' e' li, (calls h).calls p in_n, sections sh st h p in_n);
 }
 
--- kind 6
+-- kind Leave
 pub leave : (sh : Layout) (st : S.State) (p : ℕ) (x : ℕ) (calm : Bool) (told : ℕ) → p < sh.passes → (st.stands p).section ≡ Inside x calm → (st.stands p).phase ≡ phase.Idle → Shut sh st → UsesAgree sh st
     → UsesAgree sh (did sh st p (Start call.Leave) (Inside x calm) phase.Idle told (Store (place.Section p) (word.Plain 0)))
 leave sh st p x calm told in_n at_sec at_call h r = record {
@@ -71,7 +71,7 @@ leave sh st p x calm told in_n at_sec at_call h r = record {
   u_moves = λ i c' s' t' a' e' li is nm inc. grind (arith, nat_tests, r.u_moves i c' s' t' a' e' li, (calls h).calls p in_n, sections sh st h p in_n);
 }
 
--- kind 7
+-- kind StartAdvance
 pub advance : (sh : Layout) (st : S.State) (p : ℕ) (told : ℕ) → p < sh.passes → (st.stands p).section ≡ Outside → (st.stands p).phase ≡ phase.Idle → Shut sh st → UsesAgree sh st
     → UsesAgree sh (did sh st p (Start call.Advance) Outside phase.Idle told (Load place.Epoch))
 advance sh st p told in_n at_sec at_call h r = record {
@@ -80,7 +80,7 @@ advance sh st p told in_n at_sec at_call h r = record {
   u_moves = λ i c' s' t' a' e' li is nm inc. grind (arith, nat_tests, r.u_moves i c' s' t' a' e' li);
 }
 
--- kind 8
+-- kind LoadSection
 pub advancing : (sh : Layout) (st : S.State) (p : ℕ) (sec : Section) (z : ℕ) (k : ℕ) (told : ℕ) → p < sh.passes → (st.stands p).section ≡ sec → (st.stands p).phase ≡ phase.Advancing z k → Shut sh st → UsesAgree sh st
     → UsesAgree sh (did sh st p Go sec (phase.Advancing z k) told (Load (place.Section k)))
 advancing sh st p sec z k told in_n at_sec at_call h r = record {
@@ -89,7 +89,7 @@ advancing sh st p sec z k told in_n at_sec at_call h r = record {
   u_moves = λ i c' s' t' a' e' li is nm inc. grind (arith, nat_tests, r.u_moves i c' s' t' a' e' li, (calls h).calls p in_n, sections sh st h p in_n);
 }
 
--- kind 9
+-- kind AdvanceEpoch
 pub ready : (sh : Layout) (st : S.State) (p : ℕ) (sec : Section) (z : ℕ) (told : ℕ) → p < sh.passes → (st.stands p).section ≡ sec → (st.stands p).phase ≡ phase.Ready z → Shut sh st → UsesAgree sh st
     → UsesAgree sh (did sh st p Go sec (phase.Ready z) told (Exchange place.Epoch (word.Plain z) (word.Plain (z + 1))))
 ready sh st p sec z told in_n at_sec at_call h r = record {
@@ -98,7 +98,7 @@ ready sh st p sec z told in_n at_sec at_call h r = record {
   u_moves = λ i c' s' t' a' e' li is nm inc. grind (arith, nat_tests, r.u_moves i c' s' t' a' e' li, (calls h).calls p in_n, sections sh st h p in_n);
 }
 
--- kind 1
+-- kind LoadEpoch
 pub note : (sh : Layout) (st : S.State) (p : ℕ) (told : ℕ) → p < sh.passes → (st.stands p).section ≡ Outside → (st.stands p).phase ≡ phase.Idle → Shut sh st → UsesAgree sh st
     → UsesAgree sh (did sh st p (Start call.Note) Outside phase.Idle told (Load place.Epoch))
 note sh st p told in_n at_sec at_call h r = record {
@@ -107,7 +107,7 @@ note sh st p told in_n at_sec at_call h r = record {
   u_moves = λ i c' s' t' a' e' li is nm inc. grind (arith, nat_tests, r.u_moves i c' s' t' a' e' li);
 }
 
--- kind 1
+-- kind LoadEpoch
 pub learn : (sh : Layout) (st : S.State) (p : ℕ) (k : ℕ) (z : ℕ) (told : ℕ) → p < sh.passes → (st.stands p).section ≡ Outside → (st.stands p).phase ≡ phase.Idle → Shut sh st → UsesAgree sh st
     → UsesAgree sh (did sh st p (Start (call.Learn k z)) Outside phase.Idle told (Load place.Epoch))
 learn sh st p k z told in_n at_sec at_call h r = record {

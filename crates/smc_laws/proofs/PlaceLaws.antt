@@ -16,6 +16,7 @@ use Rattle.smc_core.specs.declared.section.Section.{Section}
 use Rattle.smc_core.specs.declared.section.Section.TheVariants.{Outside, Loaded, Announced, Again, Lasting, Inside}
 use Rattle.smc_shape.specs.declared.place.Place.TheVariants as place
 use Rattle.smc_core.specs.declared.done.Done.TheVariants as done
+use Rattle.smc_core.specs.declared.kind.Kind.TheVariants as kind
 use Rattle.smc_core.specs.declared.op.Op.TheVariants.{Load}
 use Rattle.smc_core.specs.Row.{has_place}
 use Rattle.smc_model.specs.declared.event.Event.TheVariants as event
@@ -215,7 +216,7 @@ module _ (opening : Opening) (shape : Layout) (s : State) (e : Everything openin
   starting i slot there told number (Inside x cm) (call.Look n) o li at hd offers is =
       go (has_place shape (place.Entry n.coll n.entry)) (same-offer (look_start shape i n) o offers) is
     where
-      go : (b : Bool) → (if b then look_offer (look.Load seeker.Caller n) else step 8 (Load (place.Section i))) ≡ o
+      go : (b : Bool) → (if b then look_offer (look.Load seeker.Caller n) else step kind.LoadSection (Load (place.Section i))) ≡ o
           → (if b then looking_change shape cm (look.Load seeker.Caller n) (seen o.op s.memory) else tells (event.Look n false) done.Null).holds ≡ Some (record { number = number; slot = there }) → there ≡ slot
       go true same e = finds_there i slot there number (look.Load seeker.Caller n) (seen o.op s.memory) li hd (ap (λ (k : Offer). seen k.op s.memory) (sym same))
           (subst (λ (z : Section). (looking_change shape (is_calm z) (look.Load seeker.Caller n) (seen o.op s.memory)).holds ≡ Some (record { number = number; slot = there })) (sym at) e)

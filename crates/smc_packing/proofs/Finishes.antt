@@ -11,6 +11,7 @@ use Rattle.smc_core.specs.declared.call.Call.TheVariants as call
 use Rattle.smc_core.specs.declared.call.Choice.TheVariants.{Start, Go}
 use Rattle.smc_core.specs.declared.done.Done.{Done}
 use Rattle.smc_core.specs.declared.done.Done.TheVariants as done
+use Rattle.smc_core.specs.declared.kind.Kind.TheVariants as kind
 use Rattle.smc_core.specs.declared.local.Opening.{Opening}
 use Rattle.smc_core.specs.declared.local.Owned.{Owned}
 use Rattle.smc_core.specs.declared.op.Op.TheVariants.{Load, Exchange}
@@ -96,8 +97,8 @@ module _ (coll kept : ℕ) (w0 : World) where
     finish-starts : IsKeptBy Finishing (Known opening shape) shape pass (Start call.Finish)
     finish-starts s e aside within (Inside x calm) owned phase.Idle at_sec at_round at_call p = has (s.stands pass).round
       where
-        early : (own : Owned) (b : Bool) (told : ℕ) → AfterChange Finishing (apply (if b then step 8 (Load (place.Section pass)) else finish_offer x (finish.Directory (first_target own.coll))).op s.memory) s.world (Inside x calm) owned
-            (if b then ends (done.Early x own.bound) else finish_change shape (finish.Directory (first_target own.coll)) (seen (if b then step 8 (Load (place.Section pass)) else finish_offer x (finish.Directory (first_target own.coll))).op s.memory))
+        early : (own : Owned) (b : Bool) (told : ℕ) → AfterChange Finishing (apply (if b then step kind.LoadSection (Load (place.Section pass)) else finish_offer x (finish.Directory (first_target own.coll))).op s.memory) s.world (Inside x calm) owned
+            (if b then ends (done.Early x own.bound) else finish_change shape (finish.Directory (first_target own.coll)) (seen (if b then step kind.LoadSection (Load (place.Section pass)) else finish_offer x (finish.Directory (first_target own.coll))).op s.memory))
         early own true told = record { low = p.low; targets = p.targets; in_world = p.in_world; part = tt }
         early own false told = record { low = p.low; targets = p.targets; in_world = p.in_world; part = tt }
 

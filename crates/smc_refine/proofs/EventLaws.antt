@@ -35,6 +35,7 @@ use Rattle.smc_core.specs.Look.{sought_number, seeker_of, find, find_after_aband
 use Rattle.smc_core.specs.declared.section.Section.{Section}
 use Rattle.smc_core.specs.declared.section.Section.TheVariants.{Outside, Loaded, Announced, Again, Lasting, Inside}
 use Rattle.smc_core.specs.declared.done.Done.TheVariants as done
+use Rattle.smc_core.specs.declared.kind.Kind.TheVariants as kind
 use Rattle.smc_core.specs.declared.local.Scan.{Scan}
 use Rattle.smc_core.specs.declared.op.Op.TheVariants.{Load, Store, MarkGone}
 use Rattle.smc_core.specs.declared.phase.objects.RemovePhase.TheVariants as remove
@@ -334,7 +335,7 @@ module _ (opening : Opening) (shape : Layout) (valid : IsShape shape) (s : State
       → Allowed s.world (start_change shape i (s.stands i) section next told (seen o.op s.memory))
   starting i told (Inside x cm) (call.Look n) o li at offers = go (has_place shape (place.Entry n.coll n.entry)) refl (same-offer (look_start shape i n) o offers)
     where
-      go : (b : Bool) → has_place shape (place.Entry n.coll n.entry) ≡ b → (if b then look_offer (look.Load seeker.Caller n) else step 8 (Load (place.Section i))) ≡ o
+      go : (b : Bool) → has_place shape (place.Entry n.coll n.entry) ≡ b → (if b then look_offer (look.Load seeker.Caller n) else step kind.LoadSection (Load (place.Section i))) ≡ o
           → Allowed s.world (if b then looking_change shape cm (look.Load seeker.Caller n) (seen o.op s.memory) else tells (event.Look n false) done.Null)
       go true t same = looking cm (look.Load seeker.Caller n) (seen o.op s.memory) (ap (λ (k : Offer). seen k.op s.memory) (sym same))
       go false t same = sym (ap (λ (object : Option Object). option_map_or (λ (x : Object). x.present) object false) (e.records.no_others n.coll n.incarnation n.entry (not-below n.entry (entries_of shape n.coll) t)))
@@ -344,19 +345,19 @@ module _ (opening : Opening) (shape : Layout) (valid : IsShape shape) (s : State
   starting i told (Again v z) (call.Look n) o li at offers = absurd (cc)
   starting i told (Lasting z) (call.Look n) o li at offers = absurd (cc)
   starting i told section (call.Read n f) o li at offers =
-      let (slot, hd, there) = by_held section (held_slot (s.stands i).held n) (λ slot. when (nat_lt f (width_of shape n.coll)) (step 19 (Load (place.Field n.coll slot f)))) o offers in
-      let (t, same) = by_test (nat_lt f (width_of shape n.coll)) (step 19 (Load (place.Field n.coll slot f))) o there in
+      let (slot, hd, there) = by_held section (held_slot (s.stands i).held n) (λ slot. when (nat_lt f (width_of shape n.coll)) (step kind.LoadField (Load (place.Field n.coll slot f)))) o offers in
+      let (t, same) = by_test (nat_lt f (width_of shape n.coll)) (step kind.LoadField (Load (place.Field n.coll slot f))) o there in
       subst (λ (k : Offer). word_of s.world n f ≡ Some (plain_of (seen k.op s.memory))) same (held_word i slot f n li hd (is-below f (width_of shape n.coll) t))
   starting i told section (call.Write n f w) o li at offers =
-      let (slot, hd, there) = by_held section (held_slot (s.stands i).held n) (λ slot. when (nat_lt f (width_of shape n.coll) && is_value w) (step 20 (Store (place.Field n.coll slot f) (word.Plain w)))) o offers in
-      let (t, same) = by_test (nat_lt f (width_of shape n.coll) && is_value w) (step 20 (Store (place.Field n.coll slot f) (word.Plain w))) o there in
+      let (slot, hd, there) = by_held section (held_slot (s.stands i).held n) (λ slot. when (nat_lt f (width_of shape n.coll) && is_value w) (step kind.WriteField (Store (place.Field n.coll slot f) (word.Plain w)))) o offers in
+      let (t, same) = by_test (nat_lt f (width_of shape n.coll) && is_value w) (step kind.WriteField (Store (place.Field n.coll slot f) (word.Plain w))) o there in
       let lt : f < width_of shape n.coll = grind (arith, nat_tests, t) in
       let value : w < BLANK = grind (arith, nat_tests, t) in
       (ap is_some (held_word i slot f n li hd lt), λ blank. omega (arith, blank, value))
   starting i told section (call.Remove n) o li at offers =
-      let (slot, hd, there) = by_held section (held_slot (s.stands i).held n) (λ slot. Some (step 21 (MarkGone n.coll n.entry))) o offers in
+      let (slot, hd, there) = by_held section (held_slot (s.stands i).held n) (λ slot. Some (step kind.MarkGone (MarkGone n.coll n.entry))) o offers in
       subst (λ (found : Option ℕ). Allowed s.world (remove_started n found (state_of (seen o.op s.memory)))) (sym hd)
-      (subst (λ (k : Offer). Allowed s.world (mark_seen n slot (state_of (seen k.op s.memory)))) (same-offer (step 21 (MarkGone n.coll n.entry)) o there)
+      (subst (λ (k : Offer). Allowed s.world (mark_seen n slot (state_of (seen k.op s.memory)))) (same-offer (step kind.MarkGone (MarkGone n.coll n.entry)) o there)
       (removing i slot n li hd (is_gone (state_for s.memory n)) refl))
   starting i told section call.Enter o li at offers = tt
   starting i told section call.Leave o li at offers = tt

@@ -11,6 +11,9 @@ use Rattle.smc_shape.proofs.PlaceLaws.{at-apart}
 use Rattle.smc_core.specs.declared.call.Choice.{Choice}
 use Rattle.smc_core.specs.declared.local.Local.{Local}
 use Rattle.smc_core.specs.declared.local.Opening.{Opening}
+use Rattle.smc_core.specs.declared.kind.Deed.{Deed}
+use Rattle.smc_core.specs.declared.kind.Deed.TheVariants as deed
+use Rattle.smc_core.specs.declared.kind.Kind.{Kind}
 use Rattle.smc_core.specs.declared.op.Offer.{Offer}
 use Rattle.smc_core.specs.declared.op.Op.{Op}
 use Rattle.smc_core.specs.declared.op.Op.TheVariants.{Load, Store, Exchange, MarkGone}
@@ -21,8 +24,6 @@ use Rattle.smc_core.specs.Row.{OpFits, place_of, put, unpacked}
 use Rattle.smc_rules.proofs.CarryLaws.{by_pass}
 use Rattle.smc_rules.proofs.ReadBack.{unpacked-packed}
 use Rattle.smc_region.specs.declared.act.Act.{Act}
-use Rattle.smc_region.specs.declared.act.Deed.{Deed}
-use Rattle.smc_region.specs.declared.act.Deed.TheVariants as deed
 use Rattle.smc_region.specs.declared.law.View.{View}
 use Rattle.smc_region.specs.Acts.{IsOfKind, act_by, act_in, deed_by, is_live, op_in}
 use Rattle.smc_region.specs.Rule.{IsOwn}
@@ -34,13 +35,13 @@ use Rattle.smc_region.proofs.Keeps.{Rule, Then, seat_fits}
 use Rattle.smc_region.proofs.KindLaws.{does-kind}
 
 -- the index of an act is that of its operation's place
-pub word-at : (shape : Layout) (kind : ℕ) (act : Act) (op : Op) → act ≡ act_by shape kind op → act.word ≡ at shape (place_of op)
+pub word-at : (shape : Layout) (kind : Kind) (act : Act) (op : Op) → act ≡ act_by shape kind op → act.word ≡ at shape (place_of op)
 word-at shape kind act (Load there) is = ap (λ (a : Act). a.word) is
 word-at shape kind act (Store there w) is = ap (λ (a : Act). a.word) is
 word-at shape kind act (Exchange there expect w) is = ap (λ (a : Act). a.word) is
 word-at shape kind act (MarkGone coll entry) is = ap (λ (a : Act). a.word) is
 
-module _ (own_shape shape : Layout) (opening : Opening) (slots seat : ℕ) (me : Me (Unit {0}) View) (named choice : Choice) (kind : ℕ) (act : Act)
+module _ (own_shape shape : Layout) (opening : Opening) (slots seat : ℕ) (me : Me (Unit {0}) View) (named choice : Choice) (kind : Kind) (act : Act)
     (same : named ≡ choice) (shaped : me.0.shape ≡ shape) (own : IsOwn choice) (alone : IsAlone me) where
   -- a load
   pub loads_by : (op : Op) → act ≡ act_by shape kind op → deed_by op ≡ deed.Load → view_op me.0 choice ≡ Some op → Allows (Rule own_shape opening) slots seat me act.word (λ n. n) (Then named op me)
@@ -82,7 +83,7 @@ answers_found view (Store there w) d number does apart s = absurd (apart (sym do
 answers_found view (Exchange there expect w) d number does apart s = s
 answers_found view (MarkGone coll entry) d number does apart s = s
 
-kind-at : (shape : Layout) (kind : ℕ) (op : Op) → (act_by shape kind op).kind ≡ kind
+kind-at : (shape : Layout) (kind : Kind) (op : Op) → (act_by shape kind op).kind ≡ kind
 kind-at shape kind (Load there) = refl
 kind-at shape kind (Store there w) = refl
 kind-at shape kind (Exchange there expect w) = refl
@@ -93,7 +94,7 @@ pub act_is : (shape : Layout) (act : Act) (offered : Option Offer) → act_in sh
 act_is shape act None e = absurd (cc)
 act_is shape act (Some o) e =
     let same : act_by shape o.kind o.op ≡ act = cc in
-    sym same ∙ ap (λ (k : ℕ). act_by shape k o.op) (sym (kind-at shape o.kind o.op) ∙ ap (λ (a : Act). a.kind) same)
+    sym same ∙ ap (λ (k : Kind). act_by shape k o.op) (sym (kind-at shape o.kind o.op) ∙ ap (λ (a : Act). a.kind) same)
 
 pub offers_op : (shape : Layout) (act : Act) (offered : Option Offer) → act_in shape offered ≡ Some act → op_of offered ≡ Some (op_in offered)
 offers_op shape act None e = absurd (cc)
@@ -104,7 +105,7 @@ pub kind_of : (shape : Layout) (pass : ℕ) (l : Local) (choice : Choice) (act :
 kind_of shape pass l choice act None is e = absurd (cc)
 kind_of shape pass l choice act (Some o) is e =
     let same : act_by shape o.kind o.op ≡ act = cc in
-    subst (λ (k : ℕ). IsOfKind k o.op) (sym (kind-at shape o.kind o.op) ∙ ap (λ (a : Act). a.kind) same) (does-kind shape pass l.stand l.stand.section l.stand.phase choice o is)
+    subst (λ (k : Kind). IsOfKind k o.op) (sym (kind-at shape o.kind o.op) ∙ ap (λ (a : Act). a.kind) same) (does-kind shape pass l.stand l.stand.section l.stand.phase choice o is)
 
 pub act_kind : (shape : Layout) (xs : List (ℕ × Local)) (choice : Choice) (act : Act) → act_in shape (offer_of shape xs choice) ≡ Some act → IsOfKind act.kind (op_in (offer_of shape xs choice))
 act_kind shape [] choice act e = absurd (cc)
@@ -132,7 +133,7 @@ pub record Lives (shape : Layout) (act : Act) (op : Op) : Type 0 where
   pub word_is : act.word ≡ at shape (place.Entry coll entry)
   pub reads : (other : ℕ) → unpacked (place.Entry other 0) act.put ≡ word.Entry (state.Present incarnation slot)
 
-pub lives : (shape : Layout) (kind : ℕ) (act : Act) (op : Op) → act ≡ act_by shape kind op → OpFits shape op → true ≡ is_live op → Lives shape act op
+pub lives : (shape : Layout) (kind : Kind) (act : Act) (op : Op) → act ≡ act_by shape kind op → OpFits shape op → true ≡ is_live op → Lives shape act op
 lives shape kind act (Store (place.Entry coll entry) (word.Entry (state.Present incarnation slot))) is fits live = record {
   coll = coll;
   entry = entry;

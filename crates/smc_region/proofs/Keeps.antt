@@ -11,6 +11,7 @@ use Rattle.smc_shape.specs.Places.{InRange, at}
 use Rattle.smc_shape.specs.declared.place.Place.{Place}
 use Rattle.smc_model.specs.World.{empty_world}
 use Rattle.smc_core.specs.declared.call.Choice.{Choice}
+use Rattle.smc_core.specs.declared.kind.Kind.{Kind}
 use Rattle.smc_core.specs.declared.local.Learnt.{Learnt}
 use Rattle.smc_core.specs.declared.local.Local.{Local}
 use Rattle.smc_core.specs.declared.local.Opening.{Opening}
@@ -130,7 +131,7 @@ acts shape opening slots seat told pass l choice o own offers s kept _ at_seat s
     )
 
 -- an operation that is offered comes with an offer
-pub op_of-some : (o : Option Offer) (op : Op) → op_of o ≡ Some op → (k : ℕ) × (o ≡ Some record { kind = k; op = op })
+pub op_of-some : (o : Option Offer) (op : Op) → op_of o ≡ Some op → (k : Kind) × (o ≡ Some record { kind = k; op = op })
 op_of-some None op e = cc
 op_of-some (Some o) op e = let same : o.op ≡ op = cc in (o.kind, λ i. Some record { kind = o.kind; op = same i })
 

@@ -17,6 +17,7 @@ use Rattle.smc_model.specs.World.{empty_world}
 use Rattle.smc_core.specs.declared.call.Call.TheVariants as call
 use Rattle.smc_core.specs.declared.call.Choice.{Choice}
 use Rattle.smc_core.specs.declared.call.Choice.TheVariants.{Start}
+use Rattle.smc_core.specs.declared.kind.Kind.TheVariants as kind
 use Rattle.smc_core.specs.declared.local.Local.{Local}
 use Rattle.smc_core.specs.declared.local.Opening.{Opening}
 use Rattle.smc_core.specs.declared.op.Op.TheVariants.{Load}
@@ -26,6 +27,7 @@ use Rattle.smc_core.specs.Change.{change}
 use Rattle.smc_core.specs.Local.{after}
 use Rattle.smc_core.specs.Machine.{Machine, Steps, is_learnt, local_offer, stepped, told_by}
 use Rattle.smc_core.specs.Row.{row_shows}
+use Rattle.smc_core.specs.Step.{step}
 use Rattle.smc_rules.proofs.CarryLaws.{by_pass}
 use Rattle.smc_region.specs.declared.law.NoteSeen.{NoteSeen}
 use Rattle.smc_region.specs.declared.law.View.{View}
@@ -42,20 +44,20 @@ use Rattle.smc_region.proofs.StepLaws.{get-set_same, is_learnt-set, note-stays, 
 
 -- a step that loads the epoch leaves the words as they are
 load_reached : (shape : Layout) (opening : Opening) (row : List ℕ) (locals : List Local) (pass : ℕ) (l : Local) (choice : Choice) (told : ℕ)
-    → IsReached shape opening row locals → slice_get locals pass ≡ Some l → local_offer shape pass l choice ≡ Some record { kind = 1; op = Load place.Epoch } → told_by locals pass choice ≡ Some told
+    → IsReached shape opening row locals → slice_get locals pass ≡ Some l → local_offer shape pass l choice ≡ Some (step kind.LoadEpoch (Load place.Epoch)) → told_by locals pass choice ≡ Some told
     → IsReached shape opening row (slice_set locals pass (after shape pass l choice told (row_shows shape (Load place.Epoch) row)))
 load_reached shape opening row locals pass l choice told r here offers allows =
     let m : Machine = record { row = row; locals = locals } in
     let next : Machine = stepped shape m pass l choice told (Load place.Epoch) in
-    let step : Steps shape m pass choice next = record { local = l; offered = record { kind = 1; op = Load place.Epoch }; told = told; here = here; offers = offers; allows = allows; leads = refl } in
+    let step : Steps shape m pass choice next = record { local = l; offered = step kind.LoadEpoch (Load place.Epoch); told = told; here = here; offers = offers; allows = allows; leads = refl } in
     subst (λ (ws : List ℕ). IsReached shape opening ws next.locals) (row-there shape (Load place.Epoch) row refl ∙ set-get_or row (at shape place.Epoch) 0)
     (reached_by shape opening next r.valid (history-then shape opening empty_world m next pass choice (was r) step))
 
 -- what is offered outside a section
-note_offers : (shape : Layout) (pass : ℕ) (l : Local) → IsOutside l → local_offer shape pass l (Start call.Note) ≡ Some record { kind = 1; op = Load place.Epoch }
+note_offers : (shape : Layout) (pass : ℕ) (l : Local) → IsOutside l → local_offer shape pass l (Start call.Note) ≡ Some (step kind.LoadEpoch (Load place.Epoch))
 note_offers shape pass l out = rw (out.phase, out.section) refl
 
-learn_offers : (shape : Layout) (pass : ℕ) (l : Local) (other number : ℕ) → IsOutside l → local_offer shape pass l (Start (call.Learn other number)) ≡ Some record { kind = 1; op = Load place.Epoch }
+learn_offers : (shape : Layout) (pass : ℕ) (l : Local) (other number : ℕ) → IsOutside l → local_offer shape pass l (Start (call.Learn other number)) ≡ Some (step kind.LoadEpoch (Load place.Epoch))
 learn_offers shape pass l other number out = rw (out.phase, out.section) refl
 
 -- the note with this number of this pass goes to a new seat

@@ -1,24 +1,26 @@
 -- A step as numbers: its kind, the index of its word, and what it expects and puts there.
-use Rattle.std.specs.Prelude.{◌≡◌, ℕ, ◌==◌, ◌||◌, Bool, true, false, Option, Some, None, if◌then◌else◌}
+use Rattle.std.specs.Prelude.{◌≡◌, ℕ, Bool, true, false, Option, Some, None}
 use Rattle.smc_shape.specs.Layout.{Layout}
 use Rattle.smc_shape.specs.Places.{at}
 use Rattle.smc_shape.specs.declared.place.Place.TheVariants as place
 use Rattle.smc_core.specs.declared.call.Choice.{Choice}
+use Rattle.smc_core.specs.declared.kind.Deed.{Deed}
+use Rattle.smc_core.specs.declared.kind.Deed.TheVariants as deed
+use Rattle.smc_core.specs.declared.kind.Kind.{Kind}
+use Rattle.smc_core.specs.declared.kind.Kind.TheVariants as kind
 use Rattle.smc_core.specs.declared.op.Offer.{Offer}
 use Rattle.smc_core.specs.declared.op.Op.{Op}
 use Rattle.smc_core.specs.declared.op.Op.TheVariants.{Load, Store, Exchange, MarkGone}
 use Rattle.smc_core.specs.declared.word.State.TheVariants as state
 use Rattle.smc_core.specs.declared.word.Word.TheVariants as word
+use Rattle.smc_core.specs.Kinds.{deed_of}
 use Rattle.smc_core.specs.Machine.{local_offer}
 use Rattle.smc_core.specs.Row.{packed}
 use Rattle.smc_region.specs.declared.act.Act.{Act}
-use Rattle.smc_region.specs.declared.act.Deed.{Deed}
-use Rattle.smc_region.specs.declared.act.Deed.TheVariants as deed
-use Rattle.smc_region.specs.declared.act.TheConstants.{LIVE_KIND, MARK_KIND}
 use Rattle.smc_region.specs.Callers.{Caller}
 
 -- an operation of a step of this kind, as numbers
-abbrev pub act_by : Layout → ℕ → Op → Act
+abbrev pub act_by : Layout → Kind → Op → Act
 act_by shape kind (Load there) = record { kind = kind; word = at shape there; expect = 0; put = 0 }
 act_by shape kind (Store there w) = record { kind = kind; word = at shape there; expect = 0; put = packed w }
 act_by shape kind (Exchange there expect w) = record { kind = kind; word = at shape there; expect = packed expect; put = packed w }
@@ -45,19 +47,7 @@ offered_act pass choice = act_in pass.shape (local_offer pass.shape pass.number 
 abbrev pub offered_op : Caller → Choice → Op
 offered_op pass choice = op_in (local_offer pass.shape pass.number pass.local choice)
 
--- the kinds that store
-abbrev pub is_store : ℕ → Bool
-is_store kind = kind == 2 || kind == 4 || kind == 6 || kind == 12 || kind == 15 || kind == 16 || kind == 17 || kind == LIVE_KIND || kind == 20 || kind == 22 || kind == 23 || kind == 27 || kind == 28 || kind == 36
-
--- the kinds that exchange
-abbrev pub is_exchange : ℕ → Bool
-is_exchange kind = kind == 9 || kind == 11 || kind == 14 || kind == 26 || kind == 29 || kind == 30 || kind == 31 || kind == 33 || kind == 34 || kind == 35
-
--- what a step of this kind does to its word
-abbrev pub deed_of : ℕ → Deed
-deed_of kind = if kind == MARK_KIND then deed.Mark else if is_store kind then deed.Store else if is_exchange kind then deed.Exchange else deed.Load
-
--- what an operation does to it
+-- what an operation does to its word
 abbrev pub deed_by : Op → Deed
 deed_by (Load there) = deed.Load
 deed_by (Store there w) = deed.Store
@@ -69,6 +59,11 @@ abbrev pub is_live : Op → Bool
 is_live (Store (place.Entry coll entry) (word.Entry (state.Present incarnation slot))) = true
 is_live op = false
 
+-- whether steps of this kind make an object live
+abbrev pub makes_live : Kind → Bool
+makes_live kind.StoreLive = true
+makes_live _ = false
+
 -- the operation does what this kind of step does
-abbrev pub IsOfKind : ℕ → Op → Type 0
-IsOfKind kind op = (deed_of kind ≡ deed_by op) × ((kind == LIVE_KIND) ≡ is_live op)
+abbrev pub IsOfKind : Kind → Op → Type 0
+IsOfKind kind op = (deed_of kind ≡ deed_by op) × (makes_live kind ≡ is_live op)

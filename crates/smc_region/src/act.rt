@@ -6,7 +6,7 @@ ghost use Rattle.smc_core.specs.Row.{OpFits, shown};
 ghost use Rattle.smc_shape.specs.Layout.{IsShape};
 ghost use Rattle.smc_shape.specs.Places.{InRange, at};
 ghost use Rattle.smc_shape.specs.declared.place.Place.TheVariants as place;
-ghost use Rattle.smc_region.specs.Acts.{IsOfKind, act_by, act_in, deed_of, is_exchange, is_store, offered_act, offered_op, op_in};
+ghost use Rattle.smc_region.specs.Acts.{IsOfKind, act_by, act_in, offered_act, offered_op, op_in};
 ghost use Rattle.smc_region.specs.Callers.{IsSame};
 ghost use Rattle.smc_region.specs.Choices.{choice_of, seat_choice};
 ghost use Rattle.smc_region.specs.Reached.{From, Showed};
@@ -19,91 +19,22 @@ use crate::law::{Acts, Choosing, View};
 use crate::region::Region;
 use crate::section::{Section, move_behind, scans_with};
 use atomic_table::Seat;
-use smc_core::State;
+use smc_core::{Deed, Kind, State};
 use smc_row::unpacked;
 use smc_shape::{Place, Shape};
 use smc_words::Entry;
 use std::marker::Brand;
 
 /// One atomic step as numbers. A field that its kind does not use is 0.
-#[derive(Clone, Copy, Debug, PartialEq, Eq)]
+#[derive(Clone, Copy)]
 pub struct Act {
-    /// Which kind of step it is, 1 to 36.
-    pub kind: u8,
+    pub kind: Kind,
     /// The index of its word in the row of the region.
     pub word: usize,
     /// The number that an exchange expects there.
     pub expect: u64,
     /// The number that a store or an exchange puts there. The mark of a removal goes with its kind.
     pub put: u64,
-}
-
-/// What a step does to its word.
-#[derive(Clone, Copy)]
-pub enum Deed {
-    Load,
-    Store,
-    Exchange,
-    /// Marks an entry's object as gone.
-    Mark,
-}
-
-/// The kind of the store that makes an object live.
-pub const LIVE_KIND: u8 = 18;
-
-/// The kind that marks an object as gone.
-pub const MARK_KIND: u8 = 21;
-
-#[inline(always)]
-fn is_store(kind: u8) -> bool
-    ensures { result ≡ is_store kind }
-{
-    kind == 2
-        || kind == 4
-        || kind == 6
-        || kind == 12
-        || kind == 15
-        || kind == 16
-        || kind == 17
-        || kind == LIVE_KIND
-        || kind == 20
-        || kind == 22
-        || kind == 23
-        || kind == 27
-        || kind == 28
-        || kind == 36
-}
-
-#[inline(always)]
-fn is_exchange(kind: u8) -> bool
-    ensures { result ≡ is_exchange kind }
-{
-    kind == 9
-        || kind == 11
-        || kind == 14
-        || kind == 26
-        || kind == 29
-        || kind == 30
-        || kind == 31
-        || kind == 33
-        || kind == 34
-        || kind == 35
-}
-
-/// What a step of this kind does.
-#[inline(always)]
-pub(crate) fn does(kind: u8) -> Deed
-    ensures { result ≡ deed_of kind }
-{
-    if kind == MARK_KIND {
-        Deed::Mark
-    } else if is_store(kind) {
-        Deed::Store
-    } else if is_exchange(kind) {
-        Deed::Exchange
-    } else {
-        Deed::Load
-    }
 }
 
 /// The operation on the table as numbers.
@@ -129,7 +60,7 @@ fn step_by_as<C: Choosing>(
     ensures stands { From seat.new.me.0 }
 {
     let board = &region.table.shared;
-    match does(act.kind) {
+    match act.kind.deed() {
         Deed::Load => board.load::<Acts<C>>(seat, act.word),
         Deed::Store => {
             board.store::<Acts<C>>(seat, act.word, act.put);
@@ -188,9 +119,9 @@ fn move_cursor_by(shape: &Shape, cursors: &mut Box<Vec<u32>>, act: Act)
         → cursors.new.value.items ≡ cursors_by shape.now cursors.old.value.items op }
     ensures long { length cursors.new.value.items ≡ length cursors.old.value.items }
 {
-    if act.kind != LIVE_KIND {
+    let Kind::StoreLive = act.kind else {
         return;
-    }
+    };
     let Some(coll) = coll_at(shape, act.word) else {
         return;
     };

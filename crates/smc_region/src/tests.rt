@@ -6,7 +6,7 @@ ghost use Rattle.smc_region.specs.Notes.{IsNoteOf};
 ghost use Rattle.smc_region.specs.Reached.{IsReached};
 
 use crate::{Act, Advance, Chosen, Note, Pass, Quiet, Region, Section};
-use smc_core::{LAST_EPOCH, Opening};
+use smc_core::{Kind, LAST_EPOCH, Opening};
 use smc_shape::{CollShape, Shape};
 use smc_words::{NoMemory, Number};
 use std::alloc::{AllocError, Global};
@@ -264,7 +264,7 @@ fn begin_scan(section: &mut Section<'_>) -> u64
     let _ = section.calm();
     let word = section.region().shape().section_at(section.pass());
     let load = Act {
-        kind: 8,
+        kind: Kind::LoadSection,
         word,
         expect: 0,
         put: 0,

@@ -15,19 +15,19 @@ pub struct Count {
 /// A walk that counts objects and blocks, of a begin or a survey.
 #[derive(Clone, Copy)]
 pub enum CountPhase {
-    /// Loads the directory word of a slot (10).
+    /// Loads the directory word of a slot.
     Directory {
         coll: u8,
         slot: u32,
         count: Count,
     },
-    /// Loads the owner of that slot (24).
+    /// Loads the owner of that slot.
     Back {
         coll: u8,
         slot: u32,
         count: Count,
     },
-    /// Loads the owner's entry (13).
+    /// Loads the owner's entry.
     Entry {
         coll: u8,
         slot: u32,
@@ -62,57 +62,57 @@ pub struct Walk {
 #[derive(Clone, Copy)]
 pub enum BeginPhase {
     Count(CountPhase),
-    /// Stores that there is no round, as no block would be freed (36).
+    /// Stores that there is no round, as no block would be freed.
     Nothing {
         coll: u8,
     },
-    /// Loads the directory word of the source (10).
+    /// Loads the directory word of the source.
     SourceDirectory(Walk),
-    /// Loads the owner of the source (24).
+    /// Loads the owner of the source.
     SourceBack(Walk),
-    /// Loads the owner's entry (13).
+    /// Loads the owner's entry.
     SourceEntry {
         walk: Walk,
         number: Number,
     },
-    /// Loads the directory word of the target (10).
+    /// Loads the directory word of the target.
     TargetDirectory {
         walk: Walk,
         number: Number,
     },
-    /// Exchanges it from what was seen, which is ripe, to claimed (11).
+    /// Exchanges it from what was seen, which is ripe, to claimed.
     ClaimTarget {
         walk: Walk,
         number: Number,
         seen: Dir,
     },
-    /// Stores blank in a field of the target (16).
+    /// Stores blank in a field of the target.
     BlankField {
         walk: Walk,
         number: Number,
         field: u32,
     },
-    /// Stores the owner of the target (15).
+    /// Stores the owner of the target.
     StoreBack {
         walk: Walk,
         number: Number,
     },
-    /// Stores the target in the forwarding word of the source (27).
+    /// Stores the target in the forwarding word of the source.
     StoreForward {
         walk: Walk,
         number: Number,
     },
-    /// Stores that the target is incoming (28).
+    /// Stores that the target is incoming.
     StoreIncoming {
         walk: Walk,
         number: Number,
     },
-    /// Exchanges the entry from unmarked at the source to frozen (29).
+    /// Exchanges the entry from unmarked at the source to frozen.
     Freeze {
         walk: Walk,
         number: Number,
     },
-    /// Stores that the target is in limbo, as the entry was not frozen (22).
+    /// Stores that the target is in limbo, as the entry was not frozen.
     GiveUp(Walk),
 }
 
@@ -129,78 +129,78 @@ pub struct Targets {
 /// A finish in progress that is not too early.
 #[derive(Clone, Copy)]
 pub enum FinishPhase {
-    /// Loads the directory word of the slot (10).
+    /// Loads the directory word of the slot.
     Directory(Targets),
-    /// Loads the owner of the target (24).
+    /// Loads the owner of the target.
     Back(Targets),
-    /// Loads the owner's entry (13).
+    /// Loads the owner's entry.
     Entry {
         targets: Targets,
         number: Number,
     },
-    /// Exchanges the entry from frozen at the source to locked (31).
+    /// Exchanges the entry from frozen at the source to locked.
     Lock {
         targets: Targets,
         number: Number,
         source: u32,
     },
-    /// Moves the object from the source to the target (32, 19, 33, 34).
+    /// Moves the object from the source to the target.
     Move {
         targets: Targets,
         number: Number,
         source: u32,
         copy: CopyPhase,
     },
-    /// Exchanges the directory word of the target from incoming to valid (35).
+    /// Exchanges the directory word of the target from incoming to valid.
     Settle {
         targets: Targets,
         source: u32,
     },
-    /// Stores that the source is in limbo (22).
+    /// Stores that the source is in limbo.
     LeaveSource {
         targets: Targets,
         source: u32,
     },
-    /// Stores that the target is in limbo, its object gone or left where it was (22).
+    /// Stores that the target is in limbo, its object gone or left where it was.
     GiveUp {
         targets: Targets,
         gone: bool,
     },
-    /// Stores that there is no round (36).
+    /// Stores that there is no round.
     End(Targets),
 }
 
 /// A cancel in progress.
 #[derive(Clone, Copy)]
 pub enum CancelPhase {
-    /// Loads the directory word of a slot (10).
+    /// Loads the directory word of a slot.
     Directory {
         coll: u8,
         slot: u32,
     },
-    /// Loads the owner of the target (24).
+    /// Loads the owner of the target.
     Back {
         coll: u8,
         slot: u32,
     },
-    /// Loads the owner's entry (13).
+    /// Loads the owner's entry.
     Entry {
         coll: u8,
         slot: u32,
         number: Number,
     },
-    /// Exchanges the entry from frozen at the source to unmarked (30).
+    /// Exchanges the entry from frozen at the source to unmarked.
     Unfreeze {
         coll: u8,
         slot: u32,
         number: Number,
         source: u32,
     },
-    /// Stores that the target is in limbo (22).
+    /// Stores that the target is in limbo.
     GiveUp {
         coll: u8,
         slot: u32,
     },
-    /// Stores that there is no round (36).
+    /// Stores that there is no round.
     End,
 }

@@ -11,25 +11,25 @@ pub enum Seeker {
 /// A step of copying an object to the slot that it is to move to.
 #[derive(Clone, Copy)]
 pub enum CopyPhase {
-    /// Loads the target from the forwarding word of the source (32).
+    /// Loads the target from the forwarding word of the source.
     Target,
-    /// Loads a field of the source (19).
+    /// Loads a field of the source.
     Load { target: u32, field: u32 },
-    /// Exchanges that field of the target from blank to what was loaded (33).
+    /// Exchanges that field of the target from blank to what was loaded.
     Put { target: u32, field: u32, value: u64 },
-    /// Exchanges the entry from the locked source to the target (34).
+    /// Exchanges the entry from the locked source to the target.
     Swing { target: u32 },
 }
 
 /// A look-up in progress.
 #[derive(Clone, Copy)]
 pub enum LookPhase {
-    /// Loads the entry (25).
+    /// Loads the entry.
     Load {
         seeker: Seeker,
         number: Number,
     },
-    /// Exchanges the entry from frozen at this slot to unmarked (30).
+    /// Exchanges the entry from frozen at this slot to unmarked.
     Abandon {
         seeker: Seeker,
         number: Number,
@@ -60,14 +60,14 @@ pub enum Finding {
 /// An add in progress.
 #[derive(Clone, Copy)]
 pub enum AddPhase {
-    /// Loads the directory word of a slot, after so many others (10).
+    /// Loads the directory word of a slot, after so many others.
     FindSlot {
         coll: u8,
         from: u32,
         slot: u32,
         tried: u32,
     },
-    /// Exchanges it from what was seen, which is ripe, to claimed (11).
+    /// Exchanges it from what was seen, which is ripe, to claimed.
     ClaimSlot {
         coll: u8,
         from: u32,
@@ -75,14 +75,14 @@ pub enum AddPhase {
         tried: u32,
         seen: Dir,
     },
-    /// Loads an entry, after so many others (13).
+    /// Loads an entry, after so many others.
     FindEntry {
         coll: u8,
         slot: u32,
         entry: u32,
         tried: u32,
     },
-    /// Exchanges it from what was seen, which is ripe, to claimed with the next incarnation (14).
+    /// Exchanges it from what was seen, which is ripe, to claimed with the next incarnation.
     ClaimEntry {
         coll: u8,
         slot: u32,
@@ -91,28 +91,28 @@ pub enum AddPhase {
         incarnation: u32,
         stamp: u64,
     },
-    /// Stores that the slot is free again, as no entry was found (12).
+    /// Stores that the slot is free again, as no entry was found.
     DropSlot {
         coll: u8,
         slot: u32,
     },
-    /// Stores the owner of the slot (15).
+    /// Stores the owner of the slot.
     StoreBack {
         slot: u32,
         number: Number,
     },
-    /// Stores a field (16).
+    /// Stores a field.
     StoreField {
         slot: u32,
         number: Number,
         field: u32,
     },
-    /// Stores that the slot is valid (17).
+    /// Stores that the slot is valid.
     StoreValid {
         slot: u32,
         number: Number,
     },
-    /// Stores the live entry (18).
+    /// Stores the live entry.
     StoreLive {
         slot: u32,
         number: Number,
@@ -122,19 +122,19 @@ pub enum AddPhase {
 /// A remove in progress that is the first.
 #[derive(Clone, Copy)]
 pub enum RemovePhase {
-    /// Stores that the slot is in limbo (22).
+    /// Stores that the slot is in limbo.
     LeaveSlot { slot: u32, number: Number },
-    /// Stores that the entry is free (23).
+    /// Stores that the entry is free.
     FreeEntry { number: Number },
 }
 
 /// A scan on its way to its next object. Its look-ups are phases of a look-up.
 #[derive(Clone, Copy)]
 pub enum ScanPhase {
-    /// Loads the directory word of a slot (10).
+    /// Loads the directory word of a slot.
     Directory { scan: u64, coll: u8, slot: u32 },
-    /// Loads the owner of that slot (24).
+    /// Loads the owner of that slot.
     Back { scan: u64, coll: u8, slot: u32 },
-    /// Loads the own section word, as no slot is left (8).
+    /// Loads the own section word, as no slot is left.
     End { scan: u64 },
 }
