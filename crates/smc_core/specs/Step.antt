@@ -1,5 +1,5 @@
 -- The parts of a step: what it does to one word, and what it changes in the pass.
-use Rattle.std.specs.Prelude.{ℕ, Bool, true, false, Option, Some, None}
+use Rattle.std.specs.Prelude.{Bool, true, false, Option, Some, None}
 use Rattle.smc_model.specs.declared.event.Event.{Event}
 use Rattle.smc_core.specs.declared.change.Change.{Change}
 use Rattle.smc_core.specs.declared.done.Done.{Done}
