@@ -12,6 +12,7 @@ use smc_words::NoMemory;
 use std::alloc::Global;
 
 /// How the drive ended that was held up, what the section then read of its object, and how the drive ended behind it.
+#[derive(Drop)]
 struct HeldUp {
     late: Outcome,
     word: u64,

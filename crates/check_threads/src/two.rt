@@ -11,7 +11,7 @@ use std::alloc::Global;
 use std::thread::{Threads, join};
 
 /// Adds so many objects, each in a section of its own. Answers how many it added.
-fn work(region: &Region, pass: Pass, many: u32) -> (Pass, u64)
+pub fn work(region: &Region, pass: Pass, many: u32) -> (Pass, u64)
     requires here { IsPassOf region.now pass }
     requires coll { 0 < length region.now.about.shape.colls }
     requires width { width_of region.now.about.shape 0 ≡ 1 }

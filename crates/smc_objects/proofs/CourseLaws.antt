@@ -1,8 +1,8 @@
 -- A scan is found among those of its section, whatever they come to.
-use Rattle.std.proofs.Common.{◌≡◌, ℕ, ◌<◌, Bool, true, Some, List, [], ◌∷◌, ◌++◌, length, refl, sym, subst, ap, ◌∙◌, arith, eq-eqb}
+use Rattle.std.proofs.Common.{◌≡◌, ℕ, ◌<◌, ◌≤◌, Bool, true, Some, List, [], ◌∷◌, ◌++◌, length, refl, sym, subst, ap, ◌∙◌, arith, eq-eqb}
 use Rattle.std.specs.Prelude.{slice_get}
 use Rattle.std.proofs.lemmas.Option.{slice_get_within}
-use Rattle.smc_shape.specs.Layout.{Layout}
+use Rattle.smc_shape.specs.Layout.{Layout, slots_of}
 use Rattle.smc_model.specs.World.{empty_world}
 use Rattle.smc_core.specs.declared.local.Local.{Local}
 use Rattle.smc_core.specs.declared.local.Scan.{Scan}
@@ -11,10 +11,13 @@ use Rattle.smc_core.specs.Scan.{ended, passed, scan_of, scan_number}
 use Rattle.smc_bounds.specs.Kept.{AreBelow}
 use Rattle.smc_bounds.proofs.KeptLaws.{kept-then}
 use Rattle.smc_bounds.proofs.ScanLists.{begun-same, below-none, closed, ended-same, passed-same, placed}
+use Rattle.smc_region.specs.Callers.{Caller}
 use Rattle.smc_region.specs.Choices.{number_of}
 use Rattle.smc_region.specs.Reached.{From}
 use Rattle.smc_region.specs.Views.{one}
 use Rattle.smc_region.proofs.StepLaws.{was}
+use Rattle.smc_objects.specs.declared.scan.Scan as objects
+use Rattle.smc_objects.specs.Scans.{IsScanOf}
 use Rattle.smc_objects.proofs.ScanLaws.{number-passed, number-ended, number-begun}
 
 -- the scan with this index among these has come so far
@@ -48,3 +51,13 @@ next_is_new shape pass l f =
     let b = kept-then shape r.valid f.opening empty_world f.machine (was r) in
     let within : pass < shape.passes = omega (arith, slice_get_within f.machine.locals pass l f.stands.0, b.backs.count) in
     subst (λ (k : Stand). AreBelow (scan_number pass k.begun) k.scans) (b.backs.same pass l f.stands.0) (b.rule.each pass within).below
+
+-- a scan is what it was while no scan goes on
+pub scan-kept : (old new : Caller) (one : objects.Scan) → new.shape ≡ old.shape → new.local.stand.scans ≡ old.local.stand.scans → IsScanOf old one → IsScanOf new one
+scan-kept old new one shape scans is = record {
+  coll = subst (λ (k : Layout). one.coll < length k.colls) (sym shape) is.coll;
+  within = subst (λ (k : Layout). one.place ≤ slots_of k one.coll) (sym shape) is.within;
+  here = subst
+      (λ (k : List Scan). scan_of k (number_of (slice_get k one.scan))
+      ≡ Some (record { number = number_of (slice_get k one.scan); coll = one.coll; place = one.place; ended = one.ended })) (sym scans) is.here;
+}

@@ -21,17 +21,7 @@ use Rattle.smc_visits.specs.Visits.{IsVisit, Scans, TakesRows, Visited, rows_in,
 
 -- ---- the scan
 
--- a scan is what it was while no scan goes on
-pub scan-kept : (old new : Caller) (one : Scan) → new.shape ≡ old.shape → new.local.stand.scans ≡ old.local.stand.scans → IsScanOf old one → IsScanOf new one
-scan-kept old new one shape scans is = record {
-  coll = subst (λ (k : Layout). one.coll < length k.colls) (sym shape) is.coll;
-  within = subst (λ (k : Layout). one.place ≤ slots_of k one.coll) (sym shape) is.within;
-  here = subst
-      (λ (k : List core.Scan). scan_of k (number_of (slice_get k one.scan))
-      ≡ Some (record { number = number_of (slice_get k one.scan); coll = one.coll; place = one.place; ended = one.ended })) (sym scans) is.here;
-}
-
--- and it has its number
+-- a scan has its number while no scan goes on
 pub number-kept : (old new : Caller) (one : Scan) → new.local.stand.scans ≡ old.local.stand.scans → (scan_in new one).number ≡ (scan_in old one).number
 number-kept old new one scans = ap (λ (k : List core.Scan). number_of (slice_get k one.scan)) scans
 

@@ -8,7 +8,8 @@ use Rattle.smc_objects.specs.Scans.{scan_in}
 use Rattle.smc_visits.specs.declared.edits.Edits.{Edits}
 use Rattle.smc_visits.specs.Edits.{AreFew}
 use Rattle.smc_visits.proofs.EditLaws.{EditsSoFar, edits-all, edits-more, few-more}
-use Rattle.smc_visits.proofs.VisitLaws.{number-kept, scan-kept}
+use Rattle.smc_objects.proofs.CourseLaws.{scan-kept}
+use Rattle.smc_visits.proofs.VisitLaws.{number-kept}
 use Rattle.smc_visits.proofs.edits.edit_all.Goals as goal
 
 pub loop-met-preserved : goal.loop-met-preserved

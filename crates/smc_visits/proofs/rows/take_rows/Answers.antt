@@ -5,7 +5,8 @@ use Rattle.smc_trace.specs.Named.{comes_to}
 use Rattle.smc_does.specs.Does.{Does, pair_of}
 use Rattle.smc_does.proofs.DoesLaws.{does-then, stays-then}
 use Rattle.smc_objects.specs.Scans.{scan_in}
-use Rattle.smc_visits.proofs.VisitLaws.{number-kept, scan-kept, takes-all, takes-more}
+use Rattle.smc_objects.proofs.CourseLaws.{scan-kept}
+use Rattle.smc_visits.proofs.VisitLaws.{number-kept, takes-all, takes-more}
 use Rattle.smc_visits.proofs.rows.take_rows.Goals as goal
 
 pub loop-met-preserved : goal.loop-met-preserved
