@@ -1,0 +1,5 @@
+pub mod AloneMakes
+pub mod Calls
+pub mod Tries
+pub mod Drives
+pub mod WorkedDrive

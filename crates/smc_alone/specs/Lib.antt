@@ -1,0 +1,4 @@
+pub mod AloneCalls
+pub mod Tried
+pub mod Laws
+pub mod Worked
