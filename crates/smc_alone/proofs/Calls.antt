@@ -1,5 +1,5 @@
 -- Calls that were made undisturbed, by their ends.
-use Rattle.std.proofs.Common.{◌≡◌, ℕ, Some, None, List, [], ◌∷◌, ◌++◌, refl, ap, ◌∙◌, subst}
+use Rattle.std.proofs.Common.{◌≡◌, ℕ, Some, None, List, [], ◌∷◌, ◌++◌, flat_map, refl, ap, ◌∙◌, subst}
 use Rattle.std.specs.List.{AllByRecursion}
 use Rattle.smc_shape.specs.Layout.{Layout}
 use Rattle.smc_model.specs.declared.event.Cause.{Cause}
@@ -22,7 +22,7 @@ use Rattle.smc_calls.specs.Ends.{EndsSo, IsEndOf}
 use Rattle.smc_alone.specs.AloneCalls.{MadeAlone}
 use Rattle.smc_alone.proofs.AloneMakes.{alone-calls_made}
 use Rattle.smc_alone.specs.Laws.{DidAlone}
-use Rattle.smc_alone.specs.Tried.{IsOfAdvance, advances_all}
+use Rattle.smc_alone.specs.Drives.{IsOfAdvance}
 
 -- calls in two parts
 pub record EndsParts (shape : Layout) (pass : ℕ) (s t : List CallEnd) (m last : Machine) : Type 0 where
@@ -73,10 +73,10 @@ module _ (shape : Layout) (pass : ℕ) where
     pub makes : Advances shape pass answers m next
     pub rest : MakesEnds shape pass later next last
 
-  pub advance-all : (answers : List Done) (later : List CallEnd) (m last : Machine) → AllByRecursion IsOfAdvance answers → MakesEnds shape pass (advances_all answers ++ later) m last → AllAdvances answers later m last
+  pub advance-all : (answers : List Done) (later : List CallEnd) (m last : Machine) → AllByRecursion IsOfAdvance answers → MakesEnds shape pass (flat_map advances answers ++ later) m last → AllAdvances answers later m last
   advance-all [] later m last are makes = record { next = m; makes = refl; rest = makes }
   advance-all (answer ∷ answers) later m last are makes =
-      let first : One shape pass call.Advance answer (advances_all answers ++ later) m last = advance answer (advances_all answers ++ later) m last are.0 makes in
+      let first : One shape pass call.Advance answer (flat_map advances answers ++ later) m last = advance answer (flat_map advances answers ++ later) m last are.0 makes in
       let then_all : AllAdvances answers later first.next last = advance-all answers later first.next last are.1 first.rest in
       record { next = then_all.next; makes = (first.next, first.makes, then_all.makes); rest = then_all.rest }
 

@@ -1,5 +1,5 @@
 -- A pass that drove or surveyed, alone.
-use Rattle.std.proofs.Common.{◌≡◌, ℕ, inl, inr, List, [], ◌++◌, sym, ap, ◌∙◌, subst}
+use Rattle.std.proofs.Common.{◌≡◌, ℕ, inl, inr, List, [], ◌++◌, flat_map, sym, ap, ◌∙◌, subst}
 use Rattle.smc_shape.specs.Layout.{Layout}
 use Rattle.smc_model.specs.World.{count_of}
 use Rattle.smc_core.specs.declared.call.Call.TheVariants as call
@@ -12,14 +12,14 @@ use Rattle.smc_aside.specs.Makes.{Makes}
 use Rattle.smc_census.specs.Census.{occupied}
 use Rattle.smc_packing.specs.Drive as D
 use Rattle.smc_packing.specs.Packing.{DrivesPack, HasState, SurveysTell, SurveysTellPacked}
-use Rattle.smc_trace.specs.Named.{enters, leaves, rounds, surveys}
+use Rattle.smc_trace.specs.Named.{advances, enters, finishes, leaves, rounds, surveys}
 use Rattle.smc_trace.specs.Trace.{CallEnd}
 use Rattle.smc_calls.specs.Calls.{MakesEnds}
 use Rattle.smc_calls.specs.Laws.{Between}
 use Rattle.smc_calls.proofs.Along.{last-moment}
 use Rattle.smc_alone.specs.AloneCalls.{MadeAlone}
 use Rattle.smc_alone.specs.Laws.{DriveHasPacked, SurveyBehindDrive, SurveyIsExact}
-use Rattle.smc_alone.specs.Tried.{Drove, FoundNothing, Moved, Surveyed, Waited, advances_all}
+use Rattle.smc_alone.specs.Drives.{Drove, FoundNothing, Moved, Surveyed, Waited}
 use Rattle.smc_alone.proofs.Calls.{AllAdvances, EndsParts, One, did-alone, up_to, ends-parts, enter, leave, advance-all, nothing, round, finish, survey}
 
 module _ (shape : Layout) (pass coll : ℕ) where
@@ -28,7 +28,7 @@ module _ (shape : Layout) (pass coll : ℕ) where
 
   found : (calls : List CallEnd) → FoundNothing coll calls → (m last : Machine) → MakesEnds shape pass calls m last → D.FindsNothing shape pass coll m last
   found calls f m last makes =
-      let all : MakesEnds shape pass (advances_all f.answers ++ (enters f.epoch ++ (rounds (done.Nothing coll) ++ leaves))) m last = subst (λ (k : List CallEnd). MakesEnds shape pass k m last) f.made makes in
+      let all : MakesEnds shape pass (flat_map advances f.answers ++ (enters f.epoch ++ (rounds (done.Nothing coll) ++ leaves))) m last = subst (λ (k : List CallEnd). MakesEnds shape pass k m last) f.made makes in
       let a : AllAdvances shape pass f.answers (enters f.epoch ++ (rounds (done.Nothing coll) ++ leaves)) m last = advance-all shape pass f.answers (enters f.epoch ++ (rounds (done.Nothing coll) ++ leaves)) m last f.waited.are all in
       let b : One shape pass call.Enter (done.At f.epoch) (rounds (done.Nothing coll) ++ leaves) a.next last = enter shape pass f.epoch (rounds (done.Nothing coll) ++ leaves) a.next last a.rest in
       let c : One shape pass (call.Begin coll) (done.Nothing coll) leaves b.next last = nothing shape pass coll leaves b.next last b.rest in
@@ -48,13 +48,13 @@ module _ (shape : Layout) (pass coll : ℕ) where
 
   moved : (calls : List CallEnd) → Moved coll calls → (m last : Machine) → MakesEnds shape pass calls m last → D.Moves shape pass coll m last
   moved calls f m last makes =
-      let rest7 : List CallEnd = rounds (done.Finished f.moved f.abandoned f.gone) ++ leaves in
+      let rest7 : List CallEnd = finishes (done.Finished f.moved f.abandoned f.gone) ++ leaves in
       let rest6 : List CallEnd = enters f.later_epoch ++ rest7 in
-      let rest5 : List CallEnd = advances_all f.later_answers ++ rest6 in
+      let rest5 : List CallEnd = flat_map advances f.later_answers ++ rest6 in
       let rest4 : List CallEnd = leaves ++ rest5 in
       let rest3 : List CallEnd = rounds (done.Round coll f.bound f.frozen) ++ rest4 in
       let rest2 : List CallEnd = enters f.epoch ++ rest3 in
-      let all : MakesEnds shape pass (advances_all f.answers ++ rest2) m last = subst (λ (k : List CallEnd). MakesEnds shape pass k m last) f.made makes in
+      let all : MakesEnds shape pass (flat_map advances f.answers ++ rest2) m last = subst (λ (k : List CallEnd). MakesEnds shape pass k m last) f.made makes in
       let a : AllAdvances shape pass f.answers rest2 m last = advance-all shape pass f.answers rest2 m last f.waited.are all in
       let b : One shape pass call.Enter (done.At f.epoch) rest3 a.next last = enter shape pass f.epoch rest3 a.next last a.rest in
       let c : One shape pass (call.Begin coll) (done.Round coll f.bound f.frozen) rest4 b.next last = round shape pass coll f.bound f.frozen rest4 b.next last b.rest in

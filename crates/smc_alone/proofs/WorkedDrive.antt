@@ -84,7 +84,7 @@ did-after reached (Some m) is sees =
     let kept : Kept m.locals = ap (λ (z : List (List Event × List Answer) × List (Section × Phase × Option Owned)). z.0) both in
     let rest : map place_of m.locals ≡ at_rest ∷ at_rest ∷ [] = ap (λ (z : List (List Event × List Answer) × List (Section × Phase × Option Owned)). z.1) both in
     let one : (a : Local) × (slice_get m.locals 0 ≡ Some a) × IsTrace a whole = first-kept m.locals kept in (
-      schedule-history drives_and_surveys (record { first = omega arith; last = omega arith; incarnation = omega arith }) m (reached drives_and_surveys m is),
+      schedule-history drives_and_surveys valid-shape (record { first = omega arith; last = omega arith; incarnation = omega arith }) m (reached drives_and_surveys m is),
       record {
         valid = valid-shape;
         local = one.0;

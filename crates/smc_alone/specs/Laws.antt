@@ -1,5 +1,5 @@
 -- What is true of the region behind such calls, where they were alone.
-use Rattle.std.specs.Prelude.{◌≡◌, ℕ, Some, List, ◌++◌, slice_get}
+use Rattle.std.specs.Prelude.{◌≡◌, ℕ, Some, List, ◌∷◌, ◌++◌, slice_get}
 use Rattle.smc_shape.specs.Layout.{Layout, IsShape}
 use Rattle.smc_model.specs.declared.event.Cause.{Cause}
 use Rattle.smc_model.specs.World.{World, count_of}
@@ -19,7 +19,9 @@ use Rattle.smc_trace.specs.Trace.{CallEnd, IsTrace}
 use Rattle.smc_aside.specs.Aside.{IsUndisturbed, OthersAside}
 use Rattle.smc_calls.specs.Laws.{Between, Moment}
 use Rattle.smc_alone.specs.AloneCalls.{AloneCalls, IsHome}
-use Rattle.smc_alone.specs.Tried.{Drove, Surveyed, TriesOnce}
+use Rattle.smc_alone.specs.Calm.{IsCalm, has_round}
+use Rattle.smc_alone.specs.Ripening.{LetsRipen}
+use Rattle.smc_alone.specs.Drives.{Drove, Surveyed}
 
 -- a history up to where all passes are idle, this one with this trace: what was done before, then these calls, alone, then the rest
 pub record DidAlone (shape : Layout) (opening : Opening) (first : World) (pass : ℕ) (before calls : List CallEnd) (last : Machine) (h : History shape opening first last) : Type 0 where
@@ -37,17 +39,17 @@ pub record TrueAt (shape : Layout) (start : List ℕ) (pass : ℕ) (calls : List
   pub at : Moment shape start pass calls steps last
   pub fact : Fact at.m
 
--- the second refusal, from its first moment to its last: nobody disturbs it, and at its first moment each slot has an object, if no entry is spent
+-- a refusal, from its first moment to its last: nobody disturbs it, and at its first moment each slot has an object, if no entry is spent
 pub record RefusedWhenFull (shape : Layout) (opening : Opening) (first : World) (pass coll : ℕ) (before refused : List CallEnd) (last : Machine) (h : History shape opening first last) : Type 0 where
   pub between : Between shape h.start pass before refused h.steps last
   pub aside : OthersAside pass between.m.locals
   pub undisturbed : IsUndisturbed pass between.during
   pub full : Holds shape opening first between.m (λ s. NoneSpent shape s coll → EachSlotHolds shape s coll)
 
--- an add that is refused twice, alone, is refused when each slot has an object
-abbrev pub RefusedTwiceIsFull : Type 0
-RefusedTwiceIsFull = (shape : Layout) (opening : Opening) (first : World) (pass coll : ℕ) (before tried : List CallEnd) (cause : Cause) (last : Machine) (h : History shape opening first last)
-    → DidAlone shape opening first pass before (tried ++ refuses coll cause) last h → TriesOnce coll tried
+-- an add that is refused, alone, behind calls that let all ripen, is refused when each slot has an object
+abbrev pub RefusedIsFull : Type 0
+RefusedIsFull = (shape : Layout) (opening : Opening) (first : World) (pass coll : ℕ) (before tried : List CallEnd) (cause : Cause) (last : Machine) (h : History shape opening first last)
+    → DidAlone shape opening first pass before (tried ++ refuses coll cause) last h → LetsRipen tried
     → RefusedWhenFull shape opening first pass coll (before ++ tried) (refuses coll cause) last h
 
 -- after a drive that is alone the objects of the collection are packed
@@ -69,3 +71,9 @@ SurveyBehindDrive = (shape : Layout) (opening : Opening) (first : World) (pass c
     → DidAlone shape opening first pass before (drove ++ surveyed) last h → Drove coll drove → Surveyed coll objects blocks surveyed
     → TrueAt shape h.start pass (before ++ (drove ++ surveyed)) h.steps last
     (λ m. HasState shape opening first m (λ s. (objects ≡ count_of s.world coll) × (blocks ≡ blocks_for objects)))
+
+-- each call of a stretch that is alone ends calmly
+abbrev pub AloneIsCalm : Type 0
+AloneIsCalm = (shape : Layout) (opening : Opening) (first : World) (pass : ℕ) (before calls : List CallEnd) (end : CallEnd) (later : List CallEnd) (last : Machine) (h : History shape opening first last)
+    → DidAlone shape opening first pass before (calls ++ end ∷ later) last h
+    → IsCalm pass (has_round (before ++ calls)) end.done

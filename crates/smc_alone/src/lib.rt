@@ -1,8 +1,11 @@
-//! What a trace says of a pass that tried to add twice, drove, or surveyed, where that was alone.
+//! What a trace says of calls that were alone: by the logs and the answers all other passes stood aside meanwhile.
 //!
-//! `specs/Tried.antt` has these lists of calls, `specs/Laws.antt` what is true of the region at the moment behind them;
-//! `laws` has the theorems. It joins `smc_alone` (calls that are alone were made undisturbed) with `smc_full` and
-//! `smc_packing` (what undisturbed calls rely on).
+//! `specs/AloneCalls.antt` says when calls of a trace are alone. The calls have files of their own: those behind which an add
+//! is refused only for want of a slot (`specs/Ripening.antt`), drives and surveys (`specs/Drives.antt`), and what it is that no
+//! other pass holds a call up (`specs/Calm.antt`). `specs/Laws.antt` says what is true of the region then, and `laws` has the
+//! theorems: the collection is full, it is packed, a survey tells its objects and its blocks, no advance is held back.
+//! Below are the calls of a trace (`smc_calls`), Alone by logs and answers (`smc_refine`), and what undisturbed calls rely
+//! on (`smc_full`, `smc_packing`); the chronicle of a region (`smc_chronicle`) stands above and puts each into one order.
 #![tactic(auto)]
 
 pub mod laws;

@@ -1,11 +1,10 @@
--- Calls of a trace: tries to add, drives, surveys.
-use Rattle.std.specs.Prelude.{◌≡◌, ◌≢◌, ◌⊎◌, ℕ, ◌+◌, ◌≤◌, Some, List, [], ◌∷◌, ◌++◌}
+-- Drives and surveys, as calls of a trace.
+use Rattle.std.specs.Prelude.{◌≡◌, ◌⊎◌, ℕ, ◌+◌, ◌≤◌, Some, List, ◌++◌, flat_map}
 use Rattle.std.specs.List.{AllByRecursion}
-use Rattle.smc_model.specs.declared.event.Cause.{Cause}
 use Rattle.smc_core.specs.declared.done.Done.{Done}
 use Rattle.smc_core.specs.declared.done.Done.TheVariants as done
 use Rattle.smc_packing.specs.Drive.{first_named, last_named}
-use Rattle.smc_trace.specs.Named.{advances, enters, finishes, leaves, refuses, rounds, surveys}
+use Rattle.smc_trace.specs.Named.{advances, enters, finishes, leaves, rounds, surveys}
 use Rattle.smc_trace.specs.Trace.{CallEnd}
 
 -- an answer of an advance
@@ -15,28 +14,6 @@ IsOfAdvance (done.NotYet pass seen) = Unit {0}
 IsOfAdvance (done.Overtaken seen) = Unit {0}
 IsOfAdvance done.Spent = Unit {0}
 IsOfAdvance _ = ⊥
-
--- of one that did not find the last epoch
-abbrev pub IsTurn : Done → Type 0
-IsTurn answer = IsOfAdvance answer × (answer ≢ done.Spent)
-
--- an add is refused, and behind three advances a section is begun again
-pub record TriesOnce (coll : ℕ) (calls : List CallEnd) : Type 0 where
-  pub epoch : ℕ
-  pub cause : Cause
-  pub one : Done
-  pub two : Done
-  pub three : Done
-  pub later_epoch : ℕ
-  pub is_one : IsTurn one
-  pub is_two : IsTurn two
-  pub is_three : IsTurn three
-  pub made : calls ≡ enters epoch ++ (refuses coll cause ++ (leaves ++ (advances one ++ (advances two ++ (advances three ++ enters later_epoch)))))
-
--- advances with these answers
-abbrev pub advances_all : List Done → List CallEnd
-advances_all [] = []
-advances_all (answer ∷ later) = advances answer ++ advances_all later
 
 -- advances up to one that names an epoch at least two above the first that was named
 pub record Waited (answers : List Done) : Type 0 where
@@ -52,7 +29,7 @@ pub record FoundNothing (coll : ℕ) (calls : List CallEnd) : Type 0 where
   pub answers : List Done
   pub waited : Waited answers
   pub epoch : ℕ
-  pub made : calls ≡ advances_all answers ++ (enters epoch ++ (rounds (done.Nothing coll) ++ leaves))
+  pub made : calls ≡ flat_map advances answers ++ (enters epoch ++ (rounds (done.Nothing coll) ++ leaves))
 
 -- a drive that was done
 pub record Moved (coll : ℕ) (calls : List CallEnd) : Type 0 where
@@ -67,8 +44,8 @@ pub record Moved (coll : ℕ) (calls : List CallEnd) : Type 0 where
   pub moved : ℕ
   pub abandoned : ℕ
   pub gone : ℕ
-  pub made : calls ≡ advances_all answers ++ (enters epoch ++ (rounds (done.Round coll bound frozen) ++ (leaves
-      ++ (advances_all later_answers ++ (enters later_epoch ++ (finishes (done.Finished moved abandoned gone) ++ leaves))))))
+  pub made : calls ≡ flat_map advances answers ++ (enters epoch ++ (rounds (done.Round coll bound frozen) ++ (leaves
+      ++ (flat_map advances later_answers ++ (enters later_epoch ++ (finishes (done.Finished moved abandoned gone) ++ leaves))))))
 
 -- a drive that came to its end
 abbrev pub Drove : ℕ → List CallEnd → Type 0
