@@ -1,7 +1,7 @@
 -- Calls that were made undisturbed, by their ends.
 use Rattle.std.proofs.Common.{◌≡◌, ℕ, Some, None, List, [], ◌∷◌, ◌++◌, flat_map, refl, ap, ◌∙◌, subst}
 use Rattle.std.specs.List.{AllByRecursion}
-use Rattle.smc_shape.specs.Layout.{Layout}
+use Rattle.smc_shape.specs.Layout.{Layout, IsShape}
 use Rattle.smc_model.specs.declared.event.Cause.{Cause}
 use Rattle.smc_model.specs.declared.event.Event.TheVariants as event
 use Rattle.smc_core.specs.declared.call.Call.{Call}
@@ -117,9 +117,9 @@ module _ (shape : Layout) (pass : ℕ) where
 
 -- what was done alone was made undisturbed
 pub did-alone : (shape : Layout) (opening : Opening) (first : World) (pass : ℕ) (before calls : List CallEnd) (last : Machine) (h : History shape opening first last)
-    → DidAlone shape opening first pass before calls last h → MadeAlone shape h.start pass before calls h.steps last
-did-alone shape opening first pass before calls last h did =
-    alone-calls_made shape opening first pass last h did.local before calls did.after did.valid did.here did.idle did.trace did.alone
+    → IsShape shape → DidAlone last.locals pass before calls → MadeAlone shape h.start pass before calls h.steps last
+did-alone shape opening first pass before calls last h valid did =
+    alone-calls_made shape opening first pass last h did.local before calls did.after valid did.here did.idle did.trace did.alone
 
 -- the history up to a moment of its steps
 abbrev pub up_to : (shape : Layout) (opening : Opening) (first : World) (last : Machine) (h : History shape opening first last) (earlier : List (ℕ × Choice)) (m : Machine) → Leads shape (started shape h.start) earlier m

@@ -1,6 +1,6 @@
 -- Each call of a stretch that is alone ends calmly.
 use Rattle.std.proofs.Common.{◌≡◌, ℕ, false, Some, List, ◌∷◌, ◌++◌, refl, sym, ap, ◌∙◌, subst}
-use Rattle.smc_shape.specs.Layout.{Layout}
+use Rattle.smc_shape.specs.Layout.{Layout, IsShape}
 use Rattle.smc_core.specs.declared.call.Call.{Call}
 use Rattle.smc_core.specs.declared.call.Call.TheVariants as call
 use Rattle.smc_core.specs.declared.call.Choice.{Choice}
@@ -47,7 +47,7 @@ owns-there shape start pass steps m made leads has =
     own.round ∙ (ap (λ (k : Phase). owns_at k (owns_after false has.local.answers)) has.idle ∙ ap (owns_after false) has.trace.1)
 
 module _ (shape : Layout) (opening : Opening) (first : World) (pass : ℕ) (before calls_made : List CallEnd) (end : CallEnd) (later : List CallEnd) (last : Machine) (past : History shape opening first last)
-    (did : DidAlone shape opening first pass before (calls_made ++ end ∷ later) last past) where
+    (valid : IsShape shape) (did : DidAlone last.locals pass before (calls_made ++ end ∷ later)) where
   -- at the moment of the call
   calm-at : (m next : Machine) (earlier : List (ℕ × Choice)) → Leads shape (started shape past.start) earlier m → OthersAside pass m.locals → HasMade pass m (before ++ calls_made)
       → (c : Call) → EndsSo end.done end.event c → Makes shape pass c end.done m next → IsCalm pass (has_round (before ++ calls_made)) end.done
@@ -56,7 +56,7 @@ module _ (shape : Layout) (opening : Opening) (first : World) (pass : ℕ) (befo
       scene : Scene (Known opening shape) shape m
       scene =
           let here : History shape opening first m = up_to shape opening first last past earlier m leads in
-          let k : HoldsOf shape opening (Known opening shape) m (history_world here) = known-then opening shape did.valid first m here in
+          let k : HoldsOf shape opening (Known opening shape) m (history_world here) = known-then opening shape valid first m here in
           record { state = history_state here; backs = k.backs; rule = k.rule }
 
       at : IsMoment (Known opening shape) shape past.start pass m
@@ -73,12 +73,12 @@ module _ (shape : Layout) (opening : Opening) (first : World) (pass : ℕ) (befo
       go : (answer : Done) → EndsSo answer end.event c → Makes shape pass c answer m next → IsCalm pass (has_round (before ++ calls_made)) answer
       go (done.NotYet other seen) is makes =
           let t : Then (Known opening shape) shape past.start pass Calmly next (done.NotYet other seen) =
-          calls (Known opening shape) shape did.valid (known-kept opening shape did.valid) past.start pass Calmly call.Advance (calm-carries opening shape pass) m next (done.NotYet other seen) at
+          calls (Known opening shape) shape valid (known-kept opening shape valid) past.start pass Calmly call.Advance (calm-carries opening shape pass) m next (done.NotYet other seen) at
           (subst (λ (k : Call). Makes shape pass k (done.NotYet other seen) m next) is.1 makes) tt in absurd t.says
       go (done.Busy bound other coll) is makes =
           let owns = has_round (before ++ calls_made) in
           let t : Then (Known opening shape) shape past.start pass (Freely pass owns) next (done.Busy bound other coll) =
-          calls (Known opening shape) shape did.valid (known-kept opening shape did.valid) past.start pass (Freely pass owns) (call.Begin is.0) (free-carries shape pass owns opening is.0) m next (done.Busy bound other coll) at
+          calls (Known opening shape) shape valid (known-kept opening shape valid) past.start pass (Freely pass owns) (call.Begin is.0) (free-carries shape pass owns opening is.0) m next (done.Busy bound other coll) at
           (subst (λ (k : Call). Makes shape pass k (done.Busy bound other coll) m next) is.2 makes) owned in t.says
       go _ is makes = tt
 
@@ -93,7 +93,7 @@ module _ (shape : Layout) (opening : Opening) (first : World) (pass : ℕ) (befo
       (made-first shape pass (before ++ calls_made) (end ∷ later) h.second.m h.second.during h.second.next h.second.made) two.0 two.2 two.3
 
 pub alone-calm : AloneIsCalm
-alone-calm shape opening first pass before made end later last h did =
-    let alone : MadeAlone shape h.start pass before (made ++ end ∷ later) h.steps last = did-alone shape opening first pass before (made ++ end ∷ later) last h did in
-    calm-halved shape opening first pass before made end later last h did alone.between alone.aside alone.undisturbed
+alone-calm shape opening first pass before made end later last h valid did =
+    let alone : MadeAlone shape h.start pass before (made ++ end ∷ later) h.steps last = did-alone shape opening first pass before (made ++ end ∷ later) last h valid did in
+    calm-halved shape opening first pass before made end later last h valid did alone.between alone.aside alone.undisturbed
     (halves shape h.start pass before made (end ∷ later) h.steps last alone.between)

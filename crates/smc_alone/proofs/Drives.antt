@@ -1,6 +1,6 @@
 -- A pass that drove or surveyed, alone.
 use Rattle.std.proofs.Common.{◌≡◌, ℕ, inl, inr, List, [], ◌++◌, flat_map, sym, ap, ◌∙◌, subst}
-use Rattle.smc_shape.specs.Layout.{Layout}
+use Rattle.smc_shape.specs.Layout.{Layout, IsShape}
 use Rattle.smc_model.specs.World.{count_of}
 use Rattle.smc_core.specs.declared.call.Call.TheVariants as call
 use Rattle.smc_core.specs.declared.done.Done.{Done}
@@ -112,31 +112,31 @@ counts-same : (coll objects blocks n k : ℕ) → done.Surveyed coll objects blo
 counts-same coll objects blocks n k is = (cc, cc)
 
 pub drive-packed : DrivesPack → DriveHasPacked
-drive-packed packs shape opening first pass coll before calls last h did f =
-    let alone : MadeAlone shape h.start pass before calls h.steps last = did-alone shape opening first pass before calls last h did in
+drive-packed packs shape opening first pass coll before calls last h valid did f =
+    let alone : MadeAlone shape h.start pass before calls h.steps last = did-alone shape opening first pass before calls last h valid did in
     let b : Between shape h.start pass before calls h.steps last = alone.between in record {
       at = last-moment shape h.start pass before calls h.steps last b;
-      fact = packs shape opening first pass b.m did.valid (up_to shape opening first last h b.earlier b.m b.leads_here) (alone.alone did.home) coll b.next (drove shape pass coll calls f b.m b.next alone.made);
+      fact = packs shape opening first pass b.m valid (up_to shape opening first last h b.earlier b.m b.leads_here) (alone.alone did.home) coll b.next (drove shape pass coll calls f b.m b.next alone.made);
     }
 
 pub survey-exact : SurveysTell → SurveyIsExact
-survey-exact tells shape opening first pass coll objects blocks before calls last h did f =
-    let alone : MadeAlone shape h.start pass before calls h.steps last = did-alone shape opening first pass before calls last h did in
+survey-exact tells shape opening first pass coll objects blocks before calls last h valid did f =
+    let alone : MadeAlone shape h.start pass before calls h.steps last = did-alone shape opening first pass before calls last h valid did in
     let b : Between shape h.start pass before calls h.steps last = alone.between in
     let told : HasState shape opening first b.next (λ s. done.Surveyed coll objects blocks ≡ done.Surveyed coll (count_of s.world coll) (occupied shape s.memory coll)) =
-    tells shape opening first pass b.m did.valid (up_to shape opening first last h b.earlier b.m b.leads_here) (alone.alone did.home) coll b.next (done.Surveyed coll objects blocks)
+    tells shape opening first pass b.m valid (up_to shape opening first last h b.earlier b.m b.leads_here) (alone.alone did.home) coll b.next (done.Surveyed coll objects blocks)
     (surveyed shape pass coll objects blocks calls f b.m b.next alone.made) in record {
       at = last-moment shape h.start pass before calls h.steps last b;
       fact = record { history = told.history; holds_of_each = λ k. counts-same coll objects blocks _ _ (told.holds_of_each k) };
     }
 
 pub survey-packed : SurveysTellPacked → SurveyBehindDrive
-survey-packed tells shape opening first pass coll objects blocks before driven calls last h did f g =
-    let alone : MadeAlone shape h.start pass before (driven ++ calls) h.steps last = did-alone shape opening first pass before (driven ++ calls) last h did in
+survey-packed tells shape opening first pass coll objects blocks before driven calls last h valid did f g =
+    let alone : MadeAlone shape h.start pass before (driven ++ calls) h.steps last = did-alone shape opening first pass before (driven ++ calls) last h valid did in
     let b : Between shape h.start pass before (driven ++ calls) h.steps last = alone.between in
     let parts : EndsParts shape pass driven calls b.m b.next = ends-parts shape pass driven calls b.m b.next alone.made in
     let told : HasState shape opening first b.next (λ s. done.Surveyed coll objects blocks ≡ done.Surveyed coll (count_of s.world coll) (blocks_for (count_of s.world coll))) =
-    tells shape opening first pass b.m did.valid (up_to shape opening first last h b.earlier b.m b.leads_here) (alone.alone did.home) coll parts.middle b.next (done.Surveyed coll objects blocks)
+    tells shape opening first pass b.m valid (up_to shape opening first last h b.earlier b.m b.leads_here) (alone.alone did.home) coll parts.middle b.next (done.Surveyed coll objects blocks)
     (drove shape pass coll driven f b.m parts.middle parts.first) (surveyed shape pass coll objects blocks calls g parts.middle b.next parts.second) in
     record {
       at = last-moment shape h.start pass before (driven ++ calls) h.steps last b;

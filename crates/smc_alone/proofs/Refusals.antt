@@ -1,7 +1,7 @@
 -- An add that is refused behind such calls, alone.
 use Rattle.std.proofs.Common.{◌≡◌, ℕ, ◌+◌, ◌≤◌, ◌<◌, Bool, List, [], ◌++◌, length, refl, sym, subst, arith}
 use Rattle.std.proofs.lemmas.Option.{slice_get_within}
-use Rattle.smc_shape.specs.Layout.{Layout}
+use Rattle.smc_shape.specs.Layout.{Layout, IsShape}
 use Rattle.smc_model.specs.declared.event.Cause.{Cause}
 use Rattle.smc_core.specs.declared.call.Call.TheVariants as call
 use Rattle.smc_core.specs.declared.done.Done.TheVariants as done
@@ -40,12 +40,12 @@ use Rattle.smc_alone.proofs.TameStretches.{Stood, TameAt, all-calls, free-at}
 use Rattle.smc_alone.proofs.TameSteps.{AddOut, out-carries}
 
 module _ (shape : Layout) (opening : Opening) (world : World) (pass coll : ℕ) (before made : List CallEnd) (cause : Cause) (last : Machine) (past : History shape opening world last)
-    (did : DidAlone shape opening world pass before (made ++ refuses coll cause) last past) (none : LetsRipen made) where
+    (valid : IsShape shape) (did : DidAlone last.locals pass before (made ++ refuses coll cause)) (none : LetsRipen made) where
   abbrev FullAt : Machine → Type 0
   FullAt m = Holds shape opening world m (λ s. NoneSpent shape s coll → EachSlotHolds shape s coll)
 
   -- the add is tried in a section
-  tried-at : (within : pass < shape.passes) (e0 least : ℕ) (m end : Machine) → e0 + 3 ≤ least → TameAt opening shape did.valid past.start pass within least (e0 + 1) m
+  tried-at : (within : pass < shape.passes) (e0 least : ℕ) (m end : Machine) → e0 + 3 ≤ least → TameAt opening shape valid past.start pass within least (e0 + 1) m
       → MakesEnds shape pass (refuses coll cause) m end → FullAt m
   tried-at within e0 least m end high at makes =
       let r : Refusal shape pass coll cause [] m end = refusal shape pass coll cause [] m end makes in
@@ -56,12 +56,12 @@ module _ (shape : Layout) (opening : Opening) (world : World) (pass coll : ℕ) 
 
       in_it : (r : Refusal shape pass coll cause [] m end) (own : ℕ) (calm : Bool) → (s.stands pass).section ≡ Inside own calm → least ≤ own → FullAt m
       in_it r own calm inside le h unspent =
-          let i : IsIn opening shape did.valid past.start pass m = record { moment = at.moment; epoch = own; calm = calm; inside = inside; no_round = at.no_round } in
-          let t : Tries opening shape did.valid past.start pass coll m r.made.next (done.Full cause) i =
-          turns.tries opening shape did.valid past.start pass coll r.from r.words m r.made.next (done.Full cause) i r.made.makes in
-          let its : HoldsOf shape opening (Used opening shape) m (history_world h) = used-then opening shape did.valid world m h in
+          let i : IsIn opening shape valid past.start pass m = record { moment = at.moment; epoch = own; calm = calm; inside = inside; no_round = at.no_round } in
+          let t : Tries opening shape valid past.start pass coll m r.made.next (done.Full cause) i =
+          turns.tries opening shape valid past.start pass coll r.from r.words m r.made.next (done.Full cause) i r.made.makes in
+          let its : HoldsOf shape opening (Used opening shape) m (history_world h) = used-then opening shape valid world m h in
           same-holds shape m s (history_state h) at.moment.scene.backs its.backs coll opening (all_rules opening shape (history_state h) its.rule.everything).slots
-          (refused-full opening shape did.valid s at.moment.scene.rule (turns.at_rest opening shape did.valid past.start pass m i) coll own
+          (refused-full opening shape valid s at.moment.scene.rule (turns.at_rest opening shape valid past.start pass m i) coll own
           (λ slot stamp is. let old = at.old.slots coll slot stamp is in omega (arith, old, high, le))
           (λ entry x stamp is. let old = at.old.entries coll entry x stamp is in omega (arith, old, high, le))
           (same-spent shape m s (history_state h) at.moment.scene.backs its.backs coll unspent) (done.Full cause) t.now.moment.scene.state.memory t.told tt)
@@ -69,12 +69,12 @@ module _ (shape : Layout) (opening : Opening) (world : World) (pass coll : ℕ) 
       out : (r : Refusal shape pass coll cause [] m end) → (s.stands pass).section ≡ Outside → FullAt m
       out r outside =
           let t : Then (Used opening shape) shape past.start pass AddOut r.made.next (done.Full cause) =
-          calls (Used opening shape) shape did.valid (used-kept opening shape did.valid) past.start pass AddOut (call.Add coll r.from r.words) (out-carries opening shape pass coll r.from r.words)
+          calls (Used opening shape) shape valid (used-kept opening shape valid) past.start pass AddOut (call.Add coll r.from r.words) (out-carries opening shape pass coll r.from r.words)
           m r.made.next (done.Full cause) at.moment r.made.makes (refl, refl, outside) in
           absurd (let no = t.says.1 in cc)
 
       by : (r : Refusal shape pass coll cause [] m end) (section : Section) → (s.stands pass).section ≡ section
-          → Stood opening shape did.valid past.start pass within least s.memory section → FullAt m
+          → Stood opening shape valid past.start pass within least s.memory section → FullAt m
       by r Outside is stood = out r is
       by r (Inside own calm) is stood = in_it r own calm is stood
       by r (Loaded seen) is stood = absurd stood
@@ -86,7 +86,7 @@ module _ (shape : Layout) (opening : Opening) (world : World) (pass coll : ℕ) 
   from-alone : (m again end : Machine) → IsAlone pass m → Reach shape past.start m.row m.locals → History shape opening world m → MakesEnds shape pass made m again
       → MakesEnds shape pass (refuses coll cause) again end → FullAt again
   from-alone m again end alone reached h one two =
-      let u : HoldsOf shape opening (Used opening shape) m (history_world h) = used-then opening shape did.valid world m h in
+      let u : HoldsOf shape opening (Used opening shape) m (history_world h) = used-then opening shape valid world m h in
       let scene : Scene (Used opening shape) shape m = record { state = history_state h; backs = u.backs; rule = u.rule } in
       let count : length m.locals ≡ shape.passes = scene.backs.count in
       let fits = slice_get_within m.locals pass alone.idle.local alone.idle.here in
@@ -95,7 +95,7 @@ module _ (shape : Layout) (opening : Opening) (world : World) (pass coll : ℕ) 
       let e0 : ℕ = epoch_of_region free.moment.scene.state.memory in
       let turned = none.turns in
       tried-at within e0 (e0 + turns_in made) again end (omega (arith, turned))
-      (all-calls opening shape did.valid past.start pass within e0 (e0 + 1) made m again none.tame (free-at opening shape did.valid past.start pass within m free) one) two
+      (all-calls opening shape valid past.start pass within e0 (e0 + 1) made m again none.tame (free-at opening shape valid past.start pass within m free) one) two
 
   halved : (b : Between shape past.start pass before (made ++ refuses coll cause) past.steps last) → OthersAside pass b.m.locals → IsUndisturbed pass b.during → IsAlone pass b.m
       → Halves shape past.start pass before made (refuses coll cause) past.steps last b
@@ -116,7 +116,7 @@ module _ (shape : Layout) (opening : Opening) (world : World) (pass coll : ℕ) 
       }
 
 pub refusal-full : RefusedIsFull
-refusal-full shape opening first pass coll before tried cause last h did none =
-    let alone : MadeAlone shape h.start pass before (tried ++ refuses coll cause) h.steps last = did-alone shape opening first pass before (tried ++ refuses coll cause) last h did in
-    halved shape opening first pass coll before tried cause last h did none alone.between alone.aside alone.undisturbed (alone.alone did.home)
+refusal-full shape opening first pass coll before tried cause last h valid did none =
+    let alone : MadeAlone shape h.start pass before (tried ++ refuses coll cause) h.steps last = did-alone shape opening first pass before (tried ++ refuses coll cause) last h valid did in
+    halved shape opening first pass coll before tried cause last h valid did none alone.between alone.aside alone.undisturbed (alone.alone did.home)
     (halves shape h.start pass before tried (refuses coll cause) h.steps last alone.between)

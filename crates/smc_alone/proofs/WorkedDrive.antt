@@ -1,9 +1,7 @@
 -- The worked drive and survey, computed.
 use Rattle.std.proofs.Common.{◌≡◌, ◌≢◌, ℕ, zero, suc, ◌+◌, false, Option, Some, None, List, [], ◌∷◌, ◌++◌, length, map, inl, refl, sym, ap, ◌∙◌, subst, arith}
 use Rattle.std.specs.Prelude.{IfSome, IsSomeAnd, option_map, slice_get}
-use Rattle.smc_shape.specs.Layout.{IsShape, words_of}
 use Rattle.smc_shape.specs.Places.{at}
-use Rattle.smc_shape.proofs.AskedLaws.{no-fault_of}
 use Rattle.smc_model.specs.declared.event.Event.{Event}
 use Rattle.smc_model.specs.Order.{log_of}
 use Rattle.smc_core.specs.declared.local.Answer.{Answer}
@@ -12,13 +10,9 @@ use Rattle.smc_core.specs.declared.local.Owned.{Owned}
 use Rattle.smc_core.specs.declared.phase.Phase.{Phase}
 use Rattle.smc_core.specs.declared.section.Section.{Section}
 use Rattle.smc_core.specs.Machine.{Machine}
-use Rattle.smc_core.specs.Played.{played, shape_of}
-use Rattle.smc_model.specs.World.{empty_world}
-use Rattle.smc_rules.specs.History.{History}
+use Rattle.smc_core.specs.Played.{played}
 use Rattle.smc_rules.proofs.CarryLaws.{some-same}
-use Rattle.smc_inv_epoch.specs.Epochs.{opening_of}
-use Rattle.smc_inv_epoch.proofs.Openings.{schedule-history}
-use Rattle.smc_aside.proofs.WholeCalls.{SchedulesAreReached, at_rest, each-place, place_of}
+use Rattle.smc_aside.proofs.WholeCalls.{at_rest, each-place, place_of}
 use Rattle.smc_refine.specs.Alone.{IsApart, TellsOf, answers_until, owns_after}
 use Rattle.smc_refine.specs.Orders.{logs_of}
 use Rattle.smc_trace.specs.Named.{leaves}
@@ -39,10 +33,6 @@ whole = added ++ ((drove ++ surveyed) ++ leaves)
 seen : seen_in (played drives_and_surveys) ≡ Some ((events_in whole, answers_in 0 whole) ∷ ([], []) ∷ [], at_rest ∷ at_rest ∷ [])
 unfolding at played
 seen = refl
-
-valid-shape : IsShape (shape_of drives_and_surveys)
-unfolding words_of
-valid-shape = no-fault_of 2 (record { width = 1; slots = 128 } ∷ []) refl
 
 -- a pass that has done nothing is apart
 apart-none : (since until : ℕ) (log : List Event) (other : ℕ) (l : Local) → l.log ≡ [] → l.answers ≡ [] → IsApart 0 since until log other l
@@ -75,18 +65,15 @@ others-none (a ∷ b ∷ []) same (suc zero) l ne here =
     (ap (λ (k : Local). k.log) (sym is) ∙ ap (λ (z : List Event × List Answer). z.0) two, ap (λ (k : Local). k.answers) (sym is) ∙ ap (λ (z : List Event × List Answer). z.1) two)
 others-none (a ∷ b ∷ []) same (suc (suc other)) l ne here = absurd (cc)
 
-did-after : SchedulesAreReached → (found : Option Machine) → played drives_and_surveys ≡ found
+did-after : (found : Option Machine) → played drives_and_surveys ≡ found
     → seen_in found ≡ Some ((events_in whole, answers_in 0 whole) ∷ ([], []) ∷ [], at_rest ∷ at_rest ∷ [])
-    → IsSomeAnd found (λ m. (h : History (shape_of drives_and_surveys) (opening_of drives_and_surveys) empty_world m) × DidAlone (shape_of drives_and_surveys) (opening_of drives_and_surveys) empty_world 0 added (drove ++ surveyed) m h)
-did-after reached None is sees = absurd (cc)
-did-after reached (Some m) is sees =
+    → IsSomeAnd found (λ m. DidAlone m.locals 0 added (drove ++ surveyed))
+did-after None is sees = absurd (cc)
+did-after (Some m) is sees =
     let both : (map kept_by m.locals, map place_of m.locals) ≡ ((events_in whole, answers_in 0 whole) ∷ ([], []) ∷ [], at_rest ∷ at_rest ∷ []) = some-same _ _ sees in
     let kept : Kept m.locals = ap (λ (z : List (List Event × List Answer) × List (Section × Phase × Option Owned)). z.0) both in
     let rest : map place_of m.locals ≡ at_rest ∷ at_rest ∷ [] = ap (λ (z : List (List Event × List Answer) × List (Section × Phase × Option Owned)). z.1) both in
-    let one : (a : Local) × (slice_get m.locals 0 ≡ Some a) × IsTrace a whole = first-kept m.locals kept in (
-      schedule-history drives_and_surveys valid-shape (record { first = omega arith; last = omega arith; incarnation = omega arith }) m (reached drives_and_surveys m is),
-      record {
-        valid = valid-shape;
+    let one : (a : Local) × (slice_get m.locals 0 ≡ Some a) × IsTrace a whole = first-kept m.locals kept in record {
         local = one.0;
         here = one.1;
         idle = λ pass l there. ap (λ (z : Section × Phase × Option Owned). z.1) (each-place at_rest 2 m.locals rest pass l there);
@@ -95,8 +82,7 @@ did-after reached (Some m) is sees =
         home = record { left = refl; no_round = refl };
         alone = λ other l ne there. let none : (l.log ≡ []) × (l.answers ≡ []) = others-none m.locals kept other l ne there in
             apart-none (length (events_in added)) (length (events_in (added ++ (drove ++ surveyed))) + 1) (log_of (logs_of m.locals) 0) other l none.0 none.1;
-      },
-    )
+    }
 
-pub drives_and_surveys-alone : SchedulesAreReached → DidAloneAfter drives_and_surveys added (drove ++ surveyed)
-drives_and_surveys-alone reached = did-after reached (played drives_and_surveys) refl seen
+pub drives_and_surveys-alone : DidAloneAfter drives_and_surveys added (drove ++ surveyed)
+drives_and_surveys-alone = did-after (played drives_and_surveys) refl seen

@@ -23,16 +23,15 @@ use Rattle.smc_alone.specs.Calm.{IsCalm, has_round}
 use Rattle.smc_alone.specs.Ripening.{LetsRipen}
 use Rattle.smc_alone.specs.Drives.{Drove, Surveyed}
 
--- a history up to where all passes are idle, this one with this trace: what was done before, then these calls, alone, then the rest
-pub record DidAlone (shape : Layout) (opening : Opening) (first : World) (pass : ℕ) (before calls : List CallEnd) (last : Machine) (h : History shape opening first last) : Type 0 where
-  pub valid : IsShape shape
+-- all passes are idle, this one with this trace: what was done before, then these calls, alone, then the rest; before them it was home
+pub record DidAlone (locals : List Local) (pass : ℕ) (before calls : List CallEnd) : Type 0 where
   pub local : Local
-  pub here : slice_get last.locals pass ≡ Some local
-  pub idle : AllIdle last.locals
+  pub here : slice_get locals pass ≡ Some local
+  pub idle : AllIdle locals
   pub after : List CallEnd
   pub trace : IsTrace local (before ++ (calls ++ after))
   pub home : IsHome before
-  pub alone : AloneCalls last.locals pass before calls
+  pub alone : AloneCalls locals pass before calls
 
 -- this is true of the region at the moment of the steps at which the pass has made these calls
 pub record TrueAt (shape : Layout) (start : List ℕ) (pass : ℕ) (calls : List CallEnd) (steps : List (ℕ × Choice)) (last : Machine) (Fact : Machine → Type 0) : Type 0 where
@@ -49,31 +48,31 @@ pub record RefusedWhenFull (shape : Layout) (opening : Opening) (first : World) 
 -- an add that is refused, alone, behind calls that let all ripen, is refused when each slot has an object
 abbrev pub RefusedIsFull : Type 0
 RefusedIsFull = (shape : Layout) (opening : Opening) (first : World) (pass coll : ℕ) (before tried : List CallEnd) (cause : Cause) (last : Machine) (h : History shape opening first last)
-    → DidAlone shape opening first pass before (tried ++ refuses coll cause) last h → LetsRipen tried
+    → IsShape shape → DidAlone last.locals pass before (tried ++ refuses coll cause) → LetsRipen tried
     → RefusedWhenFull shape opening first pass coll (before ++ tried) (refuses coll cause) last h
 
 -- after a drive that is alone the objects of the collection are packed
 abbrev pub DriveHasPacked : Type 0
 DriveHasPacked = (shape : Layout) (opening : Opening) (first : World) (pass coll : ℕ) (before drove : List CallEnd) (last : Machine) (h : History shape opening first last)
-    → DidAlone shape opening first pass before drove last h → Drove coll drove
+    → IsShape shape → DidAlone last.locals pass before drove → Drove coll drove
     → TrueAt shape h.start pass (before ++ drove) h.steps last (λ m. HasState shape opening first m (IsPacked shape coll))
 
 -- a survey that is alone tells the objects that are present, and the blocks that they occupy
 abbrev pub SurveyIsExact : Type 0
 SurveyIsExact = (shape : Layout) (opening : Opening) (first : World) (pass coll objects blocks : ℕ) (before surveyed : List CallEnd) (last : Machine) (h : History shape opening first last)
-    → DidAlone shape opening first pass before surveyed last h → Surveyed coll objects blocks surveyed
+    → IsShape shape → DidAlone last.locals pass before surveyed → Surveyed coll objects blocks surveyed
     → TrueAt shape h.start pass (before ++ surveyed) h.steps last
     (λ m. HasState shape opening first m (λ s. (objects ≡ count_of s.world coll) × (blocks ≡ occupied shape s.memory coll)))
 
 -- and behind a drive, alone with it, the fewest blocks
 abbrev pub SurveyBehindDrive : Type 0
 SurveyBehindDrive = (shape : Layout) (opening : Opening) (first : World) (pass coll objects blocks : ℕ) (before drove surveyed : List CallEnd) (last : Machine) (h : History shape opening first last)
-    → DidAlone shape opening first pass before (drove ++ surveyed) last h → Drove coll drove → Surveyed coll objects blocks surveyed
+    → IsShape shape → DidAlone last.locals pass before (drove ++ surveyed) → Drove coll drove → Surveyed coll objects blocks surveyed
     → TrueAt shape h.start pass (before ++ (drove ++ surveyed)) h.steps last
     (λ m. HasState shape opening first m (λ s. (objects ≡ count_of s.world coll) × (blocks ≡ blocks_for objects)))
 
 -- each call of a stretch that is alone ends calmly
 abbrev pub AloneIsCalm : Type 0
 AloneIsCalm = (shape : Layout) (opening : Opening) (first : World) (pass : ℕ) (before calls : List CallEnd) (end : CallEnd) (later : List CallEnd) (last : Machine) (h : History shape opening first last)
-    → DidAlone shape opening first pass before (calls ++ end ∷ later) last h
+    → IsShape shape → DidAlone last.locals pass before (calls ++ end ∷ later)
     → IsCalm pass (has_round (before ++ calls)) end.done

@@ -3,10 +3,7 @@ use Rattle.std.specs.Prelude.{ℕ, IsSomeAnd, List, [], ◌∷◌, ◌++◌}
 use Rattle.smc_words.specs.declared.number.Number.{Number}
 use Rattle.smc_core.specs.declared.call.Call.TheVariants.{Add, Advance, Begin, Enter, Finish, Leave, Survey}
 use Rattle.smc_core.specs.declared.done.Done.TheVariants.{Advanced, Finished, Round}
-use Rattle.smc_core.specs.Played.{Calls, Schedule, played, shape_of}
-use Rattle.smc_model.specs.World.{empty_world}
-use Rattle.smc_rules.specs.History.{History}
-use Rattle.smc_inv_epoch.specs.Epochs.{opening_of}
+use Rattle.smc_core.specs.Played.{Calls, Schedule, played}
 use Rattle.smc_trace.specs.Named.{advances, enters, finishes, leaves, makes, rounds, surveys}
 use Rattle.smc_trace.specs.Trace.{CallEnd}
 use Rattle.smc_alone.specs.Laws.{DidAlone}
@@ -40,4 +37,4 @@ surveyed = enters 11 ++ surveys 0 2 1
 
 -- pass 0 has done this alone where the schedule leads
 abbrev pub DidAloneAfter : Schedule → List CallEnd → List CallEnd → Type 0
-DidAloneAfter s before calls = IsSomeAnd (played s) (λ m. (h : History (shape_of s) (opening_of s) empty_world m) × DidAlone (shape_of s) (opening_of s) empty_world 0 before calls m h)
+DidAloneAfter s before calls = IsSomeAnd (played s) (λ m. DidAlone m.locals 0 before calls)
