@@ -1,6 +1,6 @@
 -- A pass that drove or surveyed, alone.
 use Rattle.std.proofs.Common.{◌≡◌, ℕ, inl, inr, List, [], ◌++◌, flat_map, sym, ap, ◌∙◌, subst}
-use Rattle.smc_shape.specs.Layout.{Layout, IsShape}
+use Rattle.smc_shape.specs.Layout.{Layout}
 use Rattle.smc_model.specs.World.{count_of}
 use Rattle.smc_core.specs.declared.call.Call.TheVariants as call
 use Rattle.smc_core.specs.declared.done.Done.{Done}

@@ -1,5 +1,5 @@
 -- The worked drive and survey, computed.
-use Rattle.std.proofs.Common.{◌≡◌, ◌≢◌, ℕ, zero, suc, ◌+◌, false, Option, Some, None, List, [], ◌∷◌, ◌++◌, length, map, inl, refl, sym, ap, ◌∙◌, subst, arith}
+use Rattle.std.proofs.Common.{◌≡◌, ◌≢◌, ℕ, zero, suc, ◌+◌, false, Option, Some, None, List, [], ◌∷◌, ◌++◌, length, map, inl, refl, sym, ap, ◌∙◌, subst}
 use Rattle.std.specs.Prelude.{IfSome, IsSomeAnd, option_map, slice_get}
 use Rattle.smc_shape.specs.Places.{at}
 use Rattle.smc_model.specs.declared.event.Event.{Event}
@@ -74,14 +74,14 @@ did-after (Some m) is sees =
     let kept : Kept m.locals = ap (λ (z : List (List Event × List Answer) × List (Section × Phase × Option Owned)). z.0) both in
     let rest : map place_of m.locals ≡ at_rest ∷ at_rest ∷ [] = ap (λ (z : List (List Event × List Answer) × List (Section × Phase × Option Owned)). z.1) both in
     let one : (a : Local) × (slice_get m.locals 0 ≡ Some a) × IsTrace a whole = first-kept m.locals kept in record {
-        local = one.0;
-        here = one.1;
-        idle = λ pass l there. ap (λ (z : Section × Phase × Option Owned). z.1) (each-place at_rest 2 m.locals rest pass l there);
-        after = leaves;
-        trace = one.2;
-        home = record { left = refl; no_round = refl };
-        alone = λ other l ne there. let none : (l.log ≡ []) × (l.answers ≡ []) = others-none m.locals kept other l ne there in
-            apart-none (length (events_in added)) (length (events_in (added ++ (drove ++ surveyed))) + 1) (log_of (logs_of m.locals) 0) other l none.0 none.1;
+      local = one.0;
+      here = one.1;
+      idle = λ pass l there. ap (λ (z : Section × Phase × Option Owned). z.1) (each-place at_rest 2 m.locals rest pass l there);
+      after = leaves;
+      trace = one.2;
+      home = record { left = refl; no_round = refl };
+      alone = λ other l ne there. let none : (l.log ≡ []) × (l.answers ≡ []) = others-none m.locals kept other l ne there in
+          apart-none (length (events_in added)) (length (events_in (added ++ (drove ++ surveyed))) + 1) (log_of (logs_of m.locals) 0) other l none.0 none.1;
     }
 
 pub drives_and_surveys-alone : DidAloneAfter drives_and_surveys added (drove ++ surveyed)

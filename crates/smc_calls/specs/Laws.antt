@@ -1,5 +1,5 @@
 -- A trace is the calls that were made.
-use Rattle.std.specs.Prelude.{◌≡◌, ℕ, Some, List, [], ◌∷◌, ◌++◌, slice_get}
+use Rattle.std.specs.Prelude.{◌≡◌, ℕ, Some, List, [], ◌++◌, slice_get}
 use Rattle.smc_shape.specs.Layout.{Layout}
 use Rattle.smc_core.specs.declared.call.Choice.{Choice}
 use Rattle.smc_core.specs.declared.local.Local.{Local}
@@ -7,7 +7,7 @@ use Rattle.smc_core.specs.declared.phase.Phase.TheVariants.{Idle}
 use Rattle.smc_core.specs.Machine.{Machine, Leads, started}
 use Rattle.smc_aside.specs.Aside.{IsUndisturbed}
 use Rattle.smc_trace.specs.Trace.{CallEnd, IsTrace}
-use Rattle.smc_calls.specs.Calls.{HasMade, MakesCall, MakesCalls, MakesEnds, Rests}
+use Rattle.smc_calls.specs.Calls.{HasMade, MakesCalls, MakesEnds, Rests}
 
 -- the one trace of an idle pass, and the calls that it made along the list of steps; since the last of them it rests
 pub record IsMadeAlong (shape : Layout) (start : List ℕ) (pass : ℕ) (steps : List (ℕ × Choice)) (last : Machine) (l : Local) : Type 0 where
