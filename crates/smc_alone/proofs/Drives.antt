@@ -11,14 +11,14 @@ use Rattle.smc_rules.specs.History.{history_state}
 use Rattle.smc_aside.specs.Makes.{Makes}
 use Rattle.smc_census.specs.Census.{occupied}
 use Rattle.smc_packing.specs.Drive as D
-use Rattle.smc_packing.specs.Packing.{DrivesPack, HasState, SurveysTell, SurveysTellPacked}
+use Rattle.smc_packing.specs.Packing.{HasState, SurveysTell, SurveysTellPacked}
 use Rattle.smc_trace.specs.Named.{advances, enters, finishes, leaves, rounds, surveys}
 use Rattle.smc_trace.specs.Trace.{CallEnd}
 use Rattle.smc_calls.specs.Calls.{MakesEnds}
 use Rattle.smc_calls.specs.Laws.{Between}
 use Rattle.smc_calls.proofs.Along.{last-moment}
 use Rattle.smc_alone.specs.AloneCalls.{MadeAlone}
-use Rattle.smc_alone.specs.Laws.{DriveHasPacked, SurveyBehindDrive, SurveyIsExact}
+use Rattle.smc_alone.specs.Laws.{SurveyBehindDrive, SurveyIsExact}
 use Rattle.smc_alone.specs.Drives.{Drove, FoundNothing, Moved, Surveyed, Waited}
 use Rattle.smc_alone.proofs.Calls.{AllAdvances, EndsParts, One, did-alone, up_to, ends-parts, enter, leave, advance-all, nothing, round, finish, survey}
 
@@ -110,14 +110,6 @@ module _ (shape : Layout) (pass coll : ℕ) where
 
 counts-same : (coll objects blocks n k : ℕ) → done.Surveyed coll objects blocks ≡ done.Surveyed coll n k → (objects ≡ n) × (blocks ≡ k)
 counts-same coll objects blocks n k is = (cc, cc)
-
-pub drive-packed : DrivesPack → DriveHasPacked
-drive-packed packs shape opening first pass coll before calls last h valid did f =
-    let alone : MadeAlone shape h.start pass before calls h.steps last = did-alone shape opening first pass before calls last h valid did in
-    let b : Between shape h.start pass before calls h.steps last = alone.between in record {
-      at = last-moment shape h.start pass before calls h.steps last b;
-      fact = packs shape opening first pass b.m valid (up_to shape opening first last h b.earlier b.m b.leads_here) (alone.alone did.home) coll b.next (drove shape pass coll calls f b.m b.next alone.made);
-    }
 
 pub survey-exact : SurveysTell → SurveyIsExact
 survey-exact tells shape opening first pass coll objects blocks before calls last h valid did f =

@@ -6,4 +6,4 @@ pub mod TameStretches
 pub mod Refusals
 pub mod CalmSteps
 pub mod CalmCalls
-pub mod WorkedDrive
+pub mod WorkedAlone

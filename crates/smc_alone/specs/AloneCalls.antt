@@ -23,7 +23,8 @@ pub record IsHome (calls : List CallEnd) : Type 0 where
   pub no_round : owns_after false (answers_in 0 calls) ≡ false
 
 -- between two moments of the steps these calls were made, while the others stood aside
-pub record MadeAlone (shape : Layout) (start : List ℕ) (pass : ℕ) (before calls : List CallEnd) (steps : List (ℕ × Choice)) (last : Machine) : Type 0 where
+pub record MadeAlone (shape : Layout) (start : List ℕ) (pass : ℕ) (before calls : List CallEnd) (steps : List (ℕ × Choice))
+    (last : Machine) : Type 0 where
   pub between : Between shape start pass before calls steps last
   pub aside : OthersAside pass between.m.locals
   pub undisturbed : IsUndisturbed pass between.during
@@ -33,6 +34,8 @@ pub record MadeAlone (shape : Layout) (start : List ℕ) (pass : ℕ) (before ca
 
 -- so it is with every stretch of a trace that is alone
 abbrev pub AloneCallsAreMade : Type 0
-AloneCallsAreMade = (shape : Layout) (opening : Opening) (first : World) (pass : ℕ) (last : Machine) (h : History shape opening first last) (l : Local) (before calls after : List CallEnd)
-    → IsShape shape → slice_get last.locals pass ≡ Some l → AllIdle last.locals → IsTrace l (before ++ (calls ++ after)) → AloneCalls last.locals pass before calls
+AloneCallsAreMade = (shape : Layout) (opening : Opening) (first : World) (pass : ℕ) (last : Machine) (h : History shape opening first last)
+    (l : Local) (before calls after : List CallEnd)
+    → IsShape shape → slice_get last.locals pass ≡ Some l → AllIdle last.locals → IsTrace l (before ++ (calls ++ after))
+    → AloneCalls last.locals pass before calls
     → MadeAlone shape h.start pass before calls h.steps last

@@ -12,7 +12,7 @@ use Rattle.smc_rules.specs.History.{History}
 use Rattle.smc_census.specs.Census.{occupied}
 use Rattle.smc_full.specs.Full.{EachSlotHolds, NoneSpent}
 use Rattle.smc_full.specs.Laws.{Holds}
-use Rattle.smc_packing.specs.Packing.{HasState, IsPacked}
+use Rattle.smc_packing.specs.Packing.{HasState}
 use Rattle.smc_refine.specs.Alone.{AllIdle}
 use Rattle.smc_trace.specs.Named.{refuses}
 use Rattle.smc_trace.specs.Trace.{CallEnd, IsTrace}
@@ -34,12 +34,14 @@ pub record DidAlone (locals : List Local) (pass : ℕ) (before calls : List Call
   pub alone : AloneCalls locals pass before calls
 
 -- this is true of the region at the moment of the steps at which the pass has made these calls
-pub record TrueAt (shape : Layout) (start : List ℕ) (pass : ℕ) (calls : List CallEnd) (steps : List (ℕ × Choice)) (last : Machine) (Fact : Machine → Type 0) : Type 0 where
+pub record TrueAt (shape : Layout) (start : List ℕ) (pass : ℕ) (calls : List CallEnd) (steps : List (ℕ × Choice)) (last : Machine)
+    (Fact : Machine → Type 0) : Type 0 where
   pub at : Moment shape start pass calls steps last
   pub fact : Fact at.m
 
 -- a refusal, from its first moment to its last: nobody disturbs it, and at its first moment each slot has an object, if no entry is spent
-pub record RefusedWhenFull (shape : Layout) (opening : Opening) (first : World) (pass coll : ℕ) (before refused : List CallEnd) (last : Machine) (h : History shape opening first last) : Type 0 where
+pub record RefusedWhenFull (shape : Layout) (opening : Opening) (first : World) (pass coll : ℕ) (before refused : List CallEnd) (last : Machine)
+    (h : History shape opening first last) : Type 0 where
   pub between : Between shape h.start pass before refused h.steps last
   pub aside : OthersAside pass between.m.locals
   pub undisturbed : IsUndisturbed pass between.during
@@ -47,32 +49,30 @@ pub record RefusedWhenFull (shape : Layout) (opening : Opening) (first : World) 
 
 -- an add that is refused, alone, behind calls that let all ripen, is refused when each slot has an object
 abbrev pub RefusedIsFull : Type 0
-RefusedIsFull = (shape : Layout) (opening : Opening) (first : World) (pass coll : ℕ) (before tried : List CallEnd) (cause : Cause) (last : Machine) (h : History shape opening first last)
+RefusedIsFull = (shape : Layout) (opening : Opening) (first : World) (pass coll : ℕ) (before tried : List CallEnd)
+    (cause : Cause) (last : Machine) (h : History shape opening first last)
     → IsShape shape → DidAlone last.locals pass before (tried ++ refuses coll cause) → LetsRipen tried
     → RefusedWhenFull shape opening first pass coll (before ++ tried) (refuses coll cause) last h
 
--- after a drive that is alone the objects of the collection are packed
-abbrev pub DriveHasPacked : Type 0
-DriveHasPacked = (shape : Layout) (opening : Opening) (first : World) (pass coll : ℕ) (before drove : List CallEnd) (last : Machine) (h : History shape opening first last)
-    → IsShape shape → DidAlone last.locals pass before drove → Drove coll drove
-    → TrueAt shape h.start pass (before ++ drove) h.steps last (λ m. HasState shape opening first m (IsPacked shape coll))
-
 -- a survey that is alone tells the objects that are present, and the blocks that they occupy
 abbrev pub SurveyIsExact : Type 0
-SurveyIsExact = (shape : Layout) (opening : Opening) (first : World) (pass coll objects blocks : ℕ) (before surveyed : List CallEnd) (last : Machine) (h : History shape opening first last)
+SurveyIsExact = (shape : Layout) (opening : Opening) (first : World) (pass coll objects blocks : ℕ)
+    (before surveyed : List CallEnd) (last : Machine) (h : History shape opening first last)
     → IsShape shape → DidAlone last.locals pass before surveyed → Surveyed coll objects blocks surveyed
     → TrueAt shape h.start pass (before ++ surveyed) h.steps last
     (λ m. HasState shape opening first m (λ s. (objects ≡ count_of s.world coll) × (blocks ≡ occupied shape s.memory coll)))
 
 -- and behind a drive, alone with it, the fewest blocks
 abbrev pub SurveyBehindDrive : Type 0
-SurveyBehindDrive = (shape : Layout) (opening : Opening) (first : World) (pass coll objects blocks : ℕ) (before drove surveyed : List CallEnd) (last : Machine) (h : History shape opening first last)
+SurveyBehindDrive = (shape : Layout) (opening : Opening) (first : World) (pass coll objects blocks : ℕ)
+    (before drove surveyed : List CallEnd) (last : Machine) (h : History shape opening first last)
     → IsShape shape → DidAlone last.locals pass before (drove ++ surveyed) → Drove coll drove → Surveyed coll objects blocks surveyed
     → TrueAt shape h.start pass (before ++ (drove ++ surveyed)) h.steps last
     (λ m. HasState shape opening first m (λ s. (objects ≡ count_of s.world coll) × (blocks ≡ blocks_for objects)))
 
 -- each call of a stretch that is alone ends calmly
 abbrev pub AloneIsCalm : Type 0
-AloneIsCalm = (shape : Layout) (opening : Opening) (first : World) (pass : ℕ) (before calls : List CallEnd) (end : CallEnd) (later : List CallEnd) (last : Machine) (h : History shape opening first last)
+AloneIsCalm = (shape : Layout) (opening : Opening) (first : World) (pass : ℕ) (before calls : List CallEnd) (end : CallEnd)
+    (later : List CallEnd) (last : Machine) (h : History shape opening first last)
     → IsShape shape → DidAlone last.locals pass before (calls ++ end ∷ later)
     → IsCalm pass (has_round (before ++ calls)) end.done

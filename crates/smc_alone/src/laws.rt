@@ -1,10 +1,14 @@
 //! Each function is a theorem over the definitions in `specs`, and does nothing.
 ghost use Rattle.smc_alone.specs.AloneCalls.{AloneCallsAreMade};
-ghost use Rattle.smc_alone.specs.Laws.{AloneIsCalm, DriveHasPacked, RefusedIsFull, SurveyBehindDrive, SurveyIsExact};
-ghost use Rattle.smc_alone.specs.Worked.{added, drives_and_surveys, drove, surveyed, DidAloneAfter};
+ghost use Rattle.smc_alone.specs.Laws.{AloneIsCalm, RefusedIsFull, SurveyBehindDrive, SurveyIsExact};
+ghost use Rattle.smc_alone.specs.Drives.{Drove, Surveyed};
+ghost use Rattle.smc_alone.specs.Ripening.{LetsRipen};
+ghost use Rattle.smc_alone.specs.Worked.{added, drives_and_surveys, drove, filled, fills_and_tries, surveyed, tried, DidAloneAfter};
+ghost use Rattle.smc_model.specs.declared.event.Cause.TheVariants.{Slots};
+ghost use Rattle.smc_trace.specs.Named.{refuses};
 ghost use Rattle.std.specs.Prelude.{◌++◌};
 
-use smc_packing::laws::{a_drive_packs, a_survey_tells};
+use smc_packing::laws::a_survey_tells;
 
 /// Each stretch of a trace that is alone was made while all other passes stood aside.
 pub fn alone_calls_are_made()
@@ -16,13 +20,6 @@ pub fn alone_calls_are_made()
 pub fn a_refusal_is_exact()
     ensures { RefusedIsFull }
 {}
-
-/// After a drive that is alone the objects of its collection are packed.
-pub fn a_drive_has_packed()
-    ensures { DriveHasPacked }
-{
-    a_drive_packs();
-}
 
 /// A survey that is alone tells the present objects and the occupied blocks, behind a drive the fewest.
 pub fn a_survey_is_exact()
@@ -37,7 +34,14 @@ pub fn alone_is_calm()
     ensures { AloneIsCalm }
 {}
 
-/// A worked schedule after which a drive and a survey were alone.
+/// A worked drive and a worked survey behind it, alone.
 pub fn a_worked_drive_alone()
-    ensures { DidAloneAfter drives_and_surveys added (drove ++ surveyed) }
+    ensures alone { DidAloneAfter drives_and_surveys added (drove ++ surveyed) }
+    ensures kinds { Drove 0 drove × Surveyed 0 2 1 surveyed }
+{}
+
+/// A worked collection that is full: an add is refused, and refused again behind three advances, alone.
+pub fn a_worked_full_collection()
+    ensures alone { DidAloneAfter fills_and_tries filled (tried ++ refuses 0 Slots) }
+    ensures ripe { LetsRipen tried }
 {}

@@ -26,7 +26,8 @@ pub record Rests (shape : Layout) (pass : ℕ) (before : List CallEnd) (m : Mach
   pub choices : own_choices pass steps ≡ []
 
 -- in these steps it makes one call, which ends so: it has made those before at the first moment, and this one more at the last
-pub record MakesCall (shape : Layout) (pass : ℕ) (before : List CallEnd) (end : CallEnd) (m : Machine) (steps : List (ℕ × Choice)) (last : Machine) : Type 0 where
+pub record MakesCall (shape : Layout) (pass : ℕ) (before : List CallEnd) (end : CallEnd) (m : Machine) (steps : List (ℕ × Choice))
+    (last : Machine) : Type 0 where
   pub call : Call
   pub is_end : IsEndOf call end
   pub leads : Leads shape m steps last

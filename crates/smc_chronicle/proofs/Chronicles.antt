@@ -3,7 +3,6 @@ use Rattle.std.proofs.Common.{◌++◌}
 use Rattle.smc_model.specs.World.{empty_world}
 use Rattle.smc_calls.specs.Laws.{CallsAreMade}
 use Rattle.smc_epochs.specs.Epochs.{EpochsAreCounted}
-use Rattle.smc_trace.specs.Named.{refuses}
 use Rattle.smc_alone.specs.Laws.{AloneIsCalm, RefusedIsFull, SurveyBehindDrive, SurveyIsExact}
 use Rattle.smc_chronicle.specs.Chronicle.{HistoriesHaveChronicles}
 use Rattle.smc_chronicle.proofs.EachWorld.{each-world}

@@ -40,14 +40,15 @@ pub record Chronicle (shape : Layout) (opening : Opening) (m : Machine) (h : His
   -- each event of a trace has its place in the order
   pub places : (pass : ℕ) (l : Local) (before : List CallEnd) (end : CallEnd) (after : List CallEnd) (event : Event) → slice_get m.locals pass ≡ Some l
       → IsTrace l (before ++ end ∷ after) → end.event ≡ Some event → (at : EventPlace (history_order h) pass before) × (at.event ≡ event)
-  -- so does the world at each place
+  -- the world at each place fits the region
   pub fits : (earlier later : List (ℕ × Event)) → history_order h ≡ earlier ++ later → FitsRegion shape opening (world_at earlier)
   -- an add that was made has found room
   pub room : (earlier later : List (ℕ × Event)) (pass coll : ℕ) (number : Number) (words : List ℕ)
       → history_order h ≡ earlier ++ (pass, Add number coll words) ∷ later → count_of (world_at earlier) coll < slots_of shape coll
   -- an add that was refused, alone, behind calls that let all ripen, has found as many objects present as there are slots
   pub full : (pass coll : ℕ) (before tried : List CallEnd) (cause : Cause) → DidAlone m.locals pass before (tried ++ refuses coll cause) → LetsRipen tried
-      → (at : EventPlace (history_order h) pass (before ++ tried)) → GivenSeldom opening coll at.earlier → count_of (world_at at.earlier) coll ≡ slots_of shape coll
+      → (at : EventPlace (history_order h) pass (before ++ tried)) → GivenSeldom opening coll at.earlier
+      → count_of (world_at at.earlier) coll ≡ slots_of shape coll
   -- a survey that was alone tells how many objects are present at its place
   pub surveyed : (pass coll objects blocks : ℕ) (before calls : List CallEnd) → DidAlone m.locals pass before calls → Surveyed coll objects blocks calls
       → (at : EventPlace (history_order h) pass (before ++ calls)) → objects ≡ count_of (world_at at.earlier) coll
@@ -63,4 +64,5 @@ pub record Chronicle (shape : Layout) (opening : Opening) (m : Machine) (h : His
 
 -- so it is of every history of a region that opened without objects
 abbrev pub HistoriesHaveChronicles : Type 0
-HistoriesHaveChronicles = (shape : Layout) (opening : Opening) (m : Machine) → IsShape shape → (h : History shape opening empty_world m) → Chronicle shape opening m h
+HistoriesHaveChronicles = (shape : Layout) (opening : Opening) (m : Machine) → IsShape shape → (h : History shape opening empty_world m)
+    → Chronicle shape opening m h

@@ -46,4 +46,5 @@ pub record CountsEpochs (shape : Layout) (opening : Opening) (m : Machine) : Typ
 
 -- so it is at the end of every history
 abbrev pub EpochsAreCounted : Type 0
-EpochsAreCounted = (shape : Layout) (opening : Opening) (first : World) (m : Machine) → IsShape shape → History shape opening first m → CountsEpochs shape opening m
+EpochsAreCounted = (shape : Layout) (opening : Opening) (first : World) (m : Machine) → IsShape shape
+    → History shape opening first m → CountsEpochs shape opening m
