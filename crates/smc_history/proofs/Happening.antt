@@ -5,11 +5,12 @@ use Rattle.smc_core.specs.Machine.{Machine}
 use Rattle.smc_rules.specs.History.{HoldsAlways}
 use Rattle.smc_refine.specs.Orders.{HistoriesAreLawful}
 use Rattle.smc_census.specs.Laws.{BlocksAreEnough, HomesAreObjects}
+use Rattle.smc_chronicle.specs.Chronicle.{HistoriesHaveChronicles}
 use Rattle.smc_region.proofs.StepLaws.{was}
 use Rattle.smc_history.specs.Happened.{WhatHappenedIsLawful}
 
-pub happening : HistoriesAreLawful → HoldsAlways HomesAreObjects → HoldsAlways BlocksAreEnough → WhatHappenedIsLawful
-happening lawful homes blocks shape opening row locals r =
+pub happening : HistoriesAreLawful → HoldsAlways HomesAreObjects → HoldsAlways BlocksAreEnough → HistoriesHaveChronicles → WhatHappenedIsLawful
+happening lawful homes blocks chronicles shape opening row locals r =
     let m : Machine = record { row = row; locals = locals } in
     let h = was r in
     let is = lawful shape opening empty_world m r.valid h in record {
@@ -19,4 +20,5 @@ happening lawful homes blocks shape opening row locals r =
       by_steps = refl;
       homes = homes shape opening empty_world m r.valid h;
       blocks = blocks shape opening empty_world m r.valid h;
+      chronicle = chronicles shape opening m r.valid h;
     }

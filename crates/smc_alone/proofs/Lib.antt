@@ -1,0 +1,9 @@
+pub mod AloneMakes
+pub mod Calls
+pub mod Drives
+pub mod TameSteps
+pub mod TameStretches
+pub mod Refusals
+pub mod CalmSteps
+pub mod CalmCalls
+pub mod WorkedAlone

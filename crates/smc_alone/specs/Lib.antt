@@ -1,0 +1,6 @@
+pub mod AloneCalls
+pub mod Ripening
+pub mod Drives
+pub mod Calm
+pub mod Laws
+pub mod Worked

@@ -1,0 +1,10 @@
+pub mod OrderParts
+pub mod OwnEvents
+pub mod NextOwn
+pub mod Places
+pub mod EachWorld
+pub mod Givings
+pub mod Room
+pub mod FullPlaces
+pub mod SurveyPlaces
+pub mod Chronicles

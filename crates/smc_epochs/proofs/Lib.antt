@@ -1,0 +1,2 @@
+pub mod EpochSteps
+pub mod EpochsCounted
