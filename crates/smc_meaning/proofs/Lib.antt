@@ -15,3 +15,6 @@ pub mod SumLaws
 pub mod EndLaws
 pub mod EditedLaws
 pub mod AnswerLaws
+mod Exchanges
+mod EndTurns
+mod BagTurns

@@ -4,7 +4,10 @@ ghost use Rattle.smc_plan.specs.Bounds.{is_within};
 ghost use Rattle.smc_plan.specs.Typed.{TypedTree};
 ghost use Rattle.smc_plan.specs.declared.kind.Kind.{Kind};
 ghost use Rattle.smc_plan.specs.declared.leaf.Leaf.{Leaf};
-ghost use Rattle.smc_plan.specs.Kinds.{kind_in};
+ghost use Rattle.smc_folds.specs.Kinds as folds;
+ghost use Rattle.smc_plan.specs.Kinds.{IsPlan, kind_in};
+ghost use Rattle.smc_plan.specs.Planned.{Planned};
+ghost use Rattle.smc_meaning.specs.Answers.{answer_of};
 ghost use Rattle.smc_meaning.specs.Values.{Cell, value_of};
 ghost use Rattle.smc_meaning.specs.Kinds.{IsOf};
 ghost use Rattle.std.specs.Cmp.{IsTotalOrder};
@@ -53,6 +56,14 @@ pub fn sorted_is_one()
         → IsPermutation rows others → IsSorted (row_order keys) others → others ≡ sorted (row_order keys) rows }
     ensures bag { (keys : List OrderKey) (rows others : List (List (Option Cell)))
         → IsPermutation rows others → sorted (row_order keys) others ≡ sorted (row_order keys) rows }
+{}
+
+/// The answer is one of the bag of rows: in whatever order they come, it is the same.
+///
+/// So whoever answers a query may read its rows in any order, as a scan hands them on.
+pub fn answer_of_a_bag()
+    ensures { (plan : Planned) (kinds : List folds.Kind) (rows others : List (List ℕ)) → IsPlan plan.leaves plan
+        → IsPermutation rows others → answer_of plan kinds others ≡ answer_of plan kinds rows }
 {}
 
 /// Answers over a few rows.
