@@ -7,7 +7,7 @@ ghost use Rattle.smc_does.specs.Does.{OwnsNone};
 use crate::hand::Hand;
 use crate::replay::{Made, fit};
 use crate::rooms::open;
-use smc_compact::{Outcome, drive};
+use smc_compact::drive;
 use smc_region::{Pass, Region};
 use smc_words::NoMemory;
 use std::alloc::Global;
@@ -39,32 +39,28 @@ fn work(
     (pass, Ok(hand.into_made()))
 }
 
-/// Drives rounds. Answers the pass, and how many rounds have moved objects.
-fn pack(region: &Region, pass: Pass, many: u32) -> (Pass, u64)
+/// Drives so many rounds.
+fn pack(region: &Region, pass: Pass, many: u32) -> Pass
     requires here { IsPassOf region.now pass }
     requires coll { 0 < length region.now.about.shape.colls }
     requires free { OwnsNone pass }
-    ensures here { IsPassOf region.now result.0 × (result.0.number ≡ pass.number) }
+    ensures here { IsPassOf region.now result × (result.number ≡ pass.number) }
 {
     let mut pass = pass;
-    let mut rounds = 0u64;
     for _ in 0..many {
-        let (next, outcome) = drive(pass, region, 0, 1_000);
+        let (next, _) = drive(pass, region, 0, 1_000);
         pass = next;
-        if let Outcome::Done { moved: 1.., .. } = outcome {
-            rounds = rounds.wrapping_add(1);
-        }
     }
-    (pass, rounds)
+    pass
 }
 
-/// What came of four threads: the passes, what was told in three of them, and how many rounds the fourth has driven.
+/// What came of four threads: the passes, and what was told in three of them.
 #[derive(Drop)]
 struct Worked {
     one: (Pass, Result<Vec<Made>, NoMemory>),
     two: (Pass, Result<Vec<Made>, NoMemory>),
     three: (Pass, Result<Vec<Made>, NoMemory>),
-    four: (Pass, u64),
+    four: Pass,
 }
 
 /// Three threads make calls, and one drives rounds.
@@ -85,7 +81,7 @@ fn work_all<R: Threads + Sync>(
     ensures one { IsPassOf region.now result.one.0 × (result.one.0.number ≡ passes.0.number) }
     ensures two { IsPassOf region.now result.two.0 × (result.two.0.number ≡ passes.1.number) }
     ensures three { IsPassOf region.now result.three.0 × (result.three.0.number ≡ passes.2.number) }
-    ensures four { IsPassOf region.now result.four.0 × (result.four.0.number ≡ passes.3.number) }
+    ensures four { IsPassOf region.now result.four × (result.four.number ≡ passes.3.number) }
 {
     let clock = &AtomicU64::new(0);
     let (one, two, three, four) = passes;
@@ -163,7 +159,7 @@ pub fn work_beside<R: Threads + Sync>(
         one: (one, first),
         two: (two, second),
         three: (three, third),
-        four: (four, rounds),
+        four,
     } = worked;
     close(alloc, region, one, two, three, four)?;
     let mut threads = Vec::new(alloc);
@@ -171,6 +167,5 @@ pub fn work_beside<R: Threads + Sync>(
     threads.push(second?)?;
     threads.push(third?)?;
     let fits = fit(alloc, threads.as_slice())?;
-    let moved = rounds > 0;
-    Ok(format!(in alloc; "all fit: {fits}; objects moved: {moved}")?)
+    Ok(format!(in alloc; "all fit: {fits}")?)
 }
