@@ -1,3 +1,4 @@
 pub mod PlacedLaws
 pub mod FieldLaws
 pub mod QueryLaws
+pub mod PushedLaws

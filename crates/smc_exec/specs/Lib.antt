@@ -1,4 +1,5 @@
 pub mod Plans
 pub mod Deletes
 pub mod Updates
+pub mod Pushed
 pub mod Queries

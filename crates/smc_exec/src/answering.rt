@@ -13,8 +13,10 @@ ghost use Rattle.smc_exec.specs.Plans.{IsPlanned};
 ghost use Rattle.smc_exec.specs.Queries.{AnswersRows};
 
 use crate::laws::queries_can_run;
+use crate::pushing::push_rows;
 use crate::query::query_rows;
 use smc_folds::{Bench, Fold};
+use smc_kernel::is_plain;
 use smc_meaning::{Rows, slow};
 use smc_plan::Plan;
 use smc_region::{Pass, Region};
@@ -65,6 +67,9 @@ pub fn answer(
     ensures free { OwnsNone pass → OwnsNone result.0 }
 {
     queries_can_run();
+    if plan.by.as_slice().is_empty() && is_plain(plan) {
+        return push_rows(alloc, plan, pass, region, coll);
+    }
     let (pass, rows) = query_rows(alloc, plan, pass, region, coll);
     match rows {
         Ok(rows) => (pass, answer_text(alloc, plan, bench, &rows)),

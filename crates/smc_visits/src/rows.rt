@@ -21,6 +21,11 @@ pub trait TakeRow {
     // How many words each row has.
     ghost words: { Self → ℕ };
 
+    // What is known of it whichever rows it takes.
+    ghost About: { Type 0 };
+
+    ghost about: { Self → About };
+
     // It has taken these rows, in this order.
     ghost has: { Self → List (List ℕ) → Type 0 };
 
@@ -31,7 +36,8 @@ pub trait TakeRow {
     fn take(&mut self, row: &[u64]) -> Result<(), NoMemory>
         requires long { length row.now ≡ words self.old }
         ensures taken { (rows : List (List ℕ)) → has self.old rows → OnOk result (has self.new (rows ++ row.now ∷ [])) }
-        ensures words { words self.new ≡ words self.old };
+        ensures words { words self.new ≡ words self.old }
+        ensures about { about self.new ≡ about self.old };
 }
 
 /// Reads the row of an object, which is taken if it is whole.
@@ -53,6 +59,7 @@ fn take_row<T: TakeRow>(
     ensures stays { Stays s.old s.new }
     ensures scans { s.new.local.stand.scans ≡ s.old.local.stand.scans }
     ensures words { T.words rows.new ≡ T.words rows.old }
+    ensures about { T.about rows.new ≡ T.about rows.old }
 {
     if !read_row(s, held, leaves, row) {
         return Ok(());
@@ -78,6 +85,7 @@ fn take_rows<T: TakeRow>(
     ensures done { OnOk result (DoesSome s.old s.new (TakesRows s.old.shape c leaves.now (T.has rows.old) (T.has rows.new))) }
     ensures does { (calls : List CallEnd) × Does s.old s.new calls }
     ensures idle { s.new.local.stand.phase ≡ Idle }
+    ensures about { T.about rows.new ≡ T.about rows.old }
 {
     let slots = s.region().shape().slots(c);
     let mut scan = Scan::begin(s, c);
@@ -110,6 +118,7 @@ pub fn scan_rows<T: TakeRow>(
     ensures done { OnOk result.1 (DoesSome pass result.0 (InSection (TakesRows pass.shape c leaves.now (T.has rows.old) (T.has rows.new)))) }
     ensures home { IsSame pass result.0 }
     ensures free { OwnsNone pass → OwnsNone result.0 }
+    ensures about { T.about rows.new ≡ T.about rows.old }
 {
     let mut section = pass.enter(region);
     let done = take_rows(&mut section, c, leaves, row, rows);

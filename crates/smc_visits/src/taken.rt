@@ -61,12 +61,17 @@ impl Taken {
 impl TakeRow for Taken {
     ghost words = { λ taken. taken.width };
 
+    ghost About = { ℕ };
+
+    ghost about = { λ taken. taken.width };
+
     ghost has = { λ taken rows. taken.rows ≡ rows };
 
     fn take(&mut self, row: &[u64]) -> Result<(), NoMemory>
         requires long { length row.now ≡ self.old.width }
         ensures taken { (rows : List (List ℕ)) → self.old.rows ≡ rows → OnOk result (self.new.rows ≡ rows ++ row.now ∷ []) }
         ensures words { self.new.width ≡ self.old.width }
+        ensures about { self.new.width ≡ self.old.width }
     {
         let Some(count) = self.count.checked_add(1) else {
             return Err(NoMemory);

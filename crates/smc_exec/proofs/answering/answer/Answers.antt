@@ -9,6 +9,12 @@ use Rattle.smc_exec.specs.Queries.{AnswersRows}
 use Rattle.smc_exec.proofs.QueryLaws.{rows-answered}
 use Rattle.smc_exec.proofs.answering.answer.Goals as goal
 
+pub push_rows-requires-clause-fits : goal.push_rows-requires-clause-fits
+push_rows-requires-clause-fits g c = (c.queries_can_run.ensures (plan_tree c.args.plan.now) c.requires.planned).fits
+
+pub push_rows-requires-clause-sound : goal.push_rows-requires-clause-sound
+push_rows-requires-clause-sound g c = (c.queries_can_run.ensures (plan_tree c.args.plan.now) c.requires.planned).typed
+
 pub answer_text-requires-clause-sound : goal.answer_text-requires-clause-sound
 answer_text-requires-clause-sound g c = (c.queries_can_run.ensures (plan_tree c.args.plan.now) c.requires.planned).typed
 

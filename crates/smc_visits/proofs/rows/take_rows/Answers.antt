@@ -25,6 +25,7 @@ loop-met-preserved g c =
       slots = i.slots ∙ (ap (λ (k : Layout). slots_of k c.loop-met.scan.coll) (sym (same ∙ comes.done.same.1)) ∙ ap (λ (k : ℕ). slots_of next.shape k) (sym comes.still.1));
       long = c.take_row.auto.row ∙ i.long;
       words = takes.words ∙ i.words;
+      about = takes.about ∙ i.about;
       so_far = takes-more c.args.s.now s met next c.args.c c.args.leaves.now (scan_in s c.loop-met.scan).number (scan_in next c.next.new.self).number
           (g.T.TakeRow.has c.args.rows.now) (g.T.TakeRow.has c.loop-met.rows) (g.T.TakeRow.has c.take_row.new.rows) (pair_of c.in-Some.met)
           (number-kept met next c.next.new.self takes.scans ∙ comes.still.0) i.so_far comes.done takes.done;

@@ -14,6 +14,7 @@ invariant-loop-met g l = record {
   slots : l.slots ≡ slots_of l.s.shape l.scan.coll;
   long : length l.row ≡ length l.fn.row;
   words : g.T.TakeRow.words l.rows ≡ g.T.TakeRow.words l.fn.rows;
+  about : g.T.TakeRow.about l.rows ≡ g.T.TakeRow.about l.fn.rows;
   so_far : TakesSoFar l.fn.s l.s l.fn.c l.leaves (scan_in l.s l.scan).number (g.T.TakeRow.has l.fn.rows) (g.T.TakeRow.has l.rows);
 }
 
