@@ -1,7 +1,7 @@
 //! Scripts: from the bytes of a script to its typed commands, or to the first line that is refused, with the kind of refusal.
 //!
-//! `read` has the call, `state` keeps what was read, `reader` takes one more line, `group` what a line does to the group that
-//! is open, and `said` reads what a line says, by the word that it begins with (`verb`): `row` the rows and values in it,
+//! `read` has the call, `state` keeps what was read, `reader` takes one more line, `known` gives its kind by the rooms, names
+//! and folds before it, over `rooms` and `folds`, `group` what a line does to the group that is open, and `said` reads what a line says, by the word that it begins with (`verb`): `row` the rows and values in it,
 //! `query` its texts of the grammar of queries, over what `cut` cuts off.
 //! `table` finds the tables and columns that it names, `names` the objects. `script` has a script and its parts, `command`
 //! the commands, `name` the names in them, `fault` says why a script is refused, `limits` how much it may ask for, and
@@ -17,7 +17,9 @@
 mod command;
 mod cut;
 mod fault;
+mod folds;
 mod group;
+mod known;
 pub mod laws;
 mod limits;
 mod name;
@@ -25,6 +27,7 @@ mod names;
 mod query;
 mod read;
 mod reader;
+mod rooms;
 mod row;
 mod said;
 mod script;

@@ -4,7 +4,7 @@ use Rattle.std.specs.List.{list_all}
 use Rattle.smc_query.specs.Trees.{call_tree, item_tree}
 use Rattle.smc_query.specs.declared.query.Item.{Item}
 use Rattle.smc_script.specs.Faults.{knows_call}
-use Rattle.smc_script.proofs.reader.knows_folds.Goals as goal
+use Rattle.smc_script.proofs.folds.knows_folds.Goals as goal
 
 pub returns : goal.returns
 returns c =
