@@ -1,5 +1,5 @@
 -- The calls of a scan that edits objects are read off from the front of a trace.
-use Rattle.std.proofs.Common.{◌≡◌, ℕ, ◌+◌, Bool, true, false, cond, Some, None, List, [], ◌∷◌, ◌++◌, refl, sym, subst, ap, ◌∙◌, append_assoc}
+use Rattle.std.proofs.Common.{◌≡◌, ℕ, ◌+◌, Bool, true, false, cond, None, List, [], ◌∷◌, ◌++◌, refl, sym, subst, ap, ◌∙◌, append_assoc}
 use Rattle.std.specs.Prelude.{flat_map, if◌then◌else◌, sum_by}
 use Rattle.std.specs.List.{AllZip}
 use Rattle.std.proofs.lemmas.List.Sums.{sum_by-cons}
@@ -8,7 +8,7 @@ use Rattle.smc_shape.specs.Layout.{Layout}
 use Rattle.smc_core.specs.declared.done.Done.TheVariants as done
 use Rattle.smc_core.specs.declared.local.Held.{Held}
 use Rattle.smc_plan.specs.declared.leaf.Leaf.{Leaf}
-use Rattle.smc_trace.specs.Named.{begins, comes_to}
+use Rattle.smc_trace.specs.Named.{comes_to}
 use Rattle.smc_trace.specs.Trace.{CallEnd}
 use Rattle.smc_visits.specs.declared.edits.Edit.{Edit}
 use Rattle.smc_visits.specs.declared.edits.Edit.TheVariants.{Leave, Remove, Write, Skip}

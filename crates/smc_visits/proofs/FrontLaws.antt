@@ -1,14 +1,12 @@
 -- The calls of a scan that reads rows are read off from the front of a trace.
-use Rattle.std.proofs.Common.{◌≡◌, ℕ, suc, ◌+◌, Bool, true, false, Option, Some, None, List, [], ◌∷◌, ◌++◌, length, refl, sym, subst, ap, ◌∙◌, append_assoc, arith}
-use Rattle.std.specs.Prelude.{◌≢◌, flat_map, option_map}
+use Rattle.std.proofs.Common.{◌≡◌, ℕ, ◌+◌, true, Option, Some, None, List, [], ◌∷◌, ◌++◌, length, refl, sym, subst, ap, ◌∙◌, append_assoc, arith}
+use Rattle.std.specs.Prelude.{flat_map, option_map}
 use Rattle.std.specs.List.{AllByRecursion, AllZip}
 use Rattle.smc_words.specs.declared.number.Number.{Number}
-use Rattle.smc_words.specs.Number.{FitsNumber, packed_number}
 use Rattle.smc_shape.specs.Layout.{Layout, width_of}
 use Rattle.smc_model.specs.declared.event.Event.TheVariants as event
 use Rattle.smc_core.specs.declared.done.Done.TheVariants as done
 use Rattle.smc_core.specs.declared.local.Held.{Held}
-use Rattle.smc_types.specs.Columns as columns
 use Rattle.smc_plan.specs.declared.leaf.Hop.{Hop}
 use Rattle.smc_plan.specs.declared.leaf.Leaf.{Leaf}
 use Rattle.smc_trace.specs.Named.{comes_to}
