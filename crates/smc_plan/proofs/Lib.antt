@@ -6,3 +6,4 @@ pub mod LeafLaws
 pub mod GrowLaws
 pub mod KindLaws
 pub mod PlanLaws
+pub mod CalendarLaws

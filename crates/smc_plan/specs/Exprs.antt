@@ -33,10 +33,13 @@ number_typed units decimals = kinded_by (number units decimals) (bounded (Number
 abbrev pub has_date : ℕ → ℕ → ℕ → Bool
 has_date year month day' = nat_le year YEAR_MAX && nat_le 1 month && nat_le month 12 && nat_le 1 day' && nat_le day' (days_in_month year month)
 
+-- the day of a date
+abbrev pub day_planned : ℕ → ℕ → ℕ → KindedTree
+day_planned year month day' = kinded (day (day_number (record { year = year; month = month; day = day' }))) (Day DAY_BOUND)
+
 -- a date is a day
 abbrev pub day_typed : ℕ → ℕ → ℕ → Result KindedTree PlanFault
-day_typed year month day' =
-    if has_date year month day' then Ok (kinded (day (day_number (record { year = year; month = month; day = day' }))) (Day DAY_BOUND)) else Err Types
+day_typed year month day' = if has_date year month day' then Ok (day_planned year month day') else Err Types
 
 -- a text
 abbrev pub text_typed : List ℕ → KindedTree

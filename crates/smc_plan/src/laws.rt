@@ -1,4 +1,8 @@
 //! What plans are worth, as theorems over the definitions: functions with no body, whose clauses are the laws.
+ghost use Rattle.std.specs.Prelude.{◌≡◌, ◌≤◌, ℕ, IsTrue, Ok};
+ghost use Rattle.smc_tokens.specs.Tokens.{is_civil};
+ghost use Rattle.smc_types.specs.declared.days.TheConstants.{YEAR_MAX};
+ghost use Rattle.smc_plan.specs.Exprs.{day_planned, day_typed, has_date};
 ghost use Rattle.smc_plan.specs.Laws.{EditsAreTyped, EditsDiffer, QueriesAreTyped, QueriesDiffer};
 ghost use Rattle.smc_plan.specs.Worked.{EndsInReference, FaultsInOrder, FollowsName, LacksField, LacksFold, LacksTable, PlansForecast, PlansShipping, SumsSquares, SumsText};
 
@@ -32,3 +36,9 @@ pub fn parts_are_typed()
 {
     a_text_says_a_day_in_range();
 }
+
+/// The calendar of query texts is that of the tables: a date that a text can spell is a day, and no plan refuses it.
+pub fn one_calendar()
+    ensures same { (year month day : ℕ) → year ≤ YEAR_MAX → has_date year month day ≡ is_civil year month day }
+    ensures taken { (year month day : ℕ) → year ≤ YEAR_MAX → IsTrue (is_civil year month day) → day_typed year month day ≡ Ok (day_planned year month day) }
+{}
