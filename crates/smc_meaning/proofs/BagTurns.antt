@@ -5,7 +5,7 @@ use Rattle.std.specs.List.Sorted.{IsPermutation}
 use Rattle.std.specs.Cmp.{Equal-is, IsTotalOrder}
 use Rattle.std.specs.Cmp.Lexicographic.{slice_cmp}
 use Rattle.std.specs.Option.{option_and_then, option_map}
-use Rattle.std.specs.Ordering.{int_cmp, is_eq, nat_cmp}
+use Rattle.std.specs.Ordering.{int_cmp, nat_cmp}
 use Rattle.std.specs.declared.cmp.Ordering.{Ordering}
 use Rattle.std.proofs.lemmas.Bool.{and_parts, false≢true}
 use Rattle.std.proofs.lemmas.Cmp.{int_cmp_total, nat_list_cmp_total}
@@ -246,8 +246,8 @@ module _ (plan : Planned) (sound : AllByRecursion (IsPlace plan.leaves) plan.by)
         ∙ list_any-IsPermutation (λ r. same_key plan r row) (front ++ y ∷ x ∷ []) (front ++ x ∷ y ∷ []) (turned front y x [])
         ∙ ap (list_any (λ r. same_key plan r row)) (sym (append_assoc front (x ∷ []) (y ∷ [])))) in
         let parts = λ (one two : Row).
-            ap (map h) (first_rows-parts [] front (one ∷ two ∷ back) ∙ ap (λ (rest : Rows). first_rows plan [] front ++ rest) (first-two front one two back))
-            ∙ map-append h (first_rows plan [] front) (unless (seen one) one (unless (seen two || same_key plan one two) two (first_rows plan ((front ++ one ∷ []) ++ two ∷ []) back))) in
+        ap (map h) (first_rows-parts [] front (one ∷ two ∷ back) ∙ ap (λ (rest : Rows). first_rows plan [] front ++ rest) (first-two front one two back))
+        ∙ map-append h (first_rows plan [] front) (unless (seen one) one (unless (seen two || same_key plan one two) two (first_rows plan ((front ++ one ∷ []) ++ two ∷ []) back))) in
         ap (sorted order) (parts x y)
         ∙ by_tests before x y later (seen x) (seen y) (same_key plan x y)
         (λ is. ap (λ k. list_any (λ r. same_cells (key_of plan r) k) front) (key-same x y is)) (same x y)

@@ -40,6 +40,7 @@ pub fn worked_texts()
 pub fn worked_order()
     ensures all { ordered count_falls None four_rows ≡ four_in_order }
     ensures first { ordered count_falls (Some 2) four_rows ≡ two_in_order }
+    ensures none { ordered count_falls (Some 0) four_rows ≡ [] }
 {}
 
 /// The order of rows is total, and rows that it does not tell apart are one.

@@ -6,3 +6,6 @@ returns-clause-all c = refl
 
 pub returns-clause-first : goal.returns-clause-first
 returns-clause-first c = refl
+
+pub returns-clause-none : goal.returns-clause-none
+returns-clause-none c = refl
