@@ -75,7 +75,10 @@ fn is_preceded(model: &mut Model, track: &Track<'_>, made: &Made) -> Result<bool
 /// Replays the next call of some thread. Answers whether there was one that fits.
 fn replay_one(model: &mut Model, tracks: &mut [Track<'_>]) -> Result<bool, NoMemory> {
     for k in 0..tracks.len() {
-        let Some(made) = tracks[k].rest().first() else {
+        let Some(track) = tracks.get(k) else {
+            continue;
+        };
+        let Some(made) = track.rest().first() else {
             continue;
         };
         if !is_next(tracks, made) {
@@ -86,7 +89,9 @@ fn replay_one(model: &mut Model, tracks: &mut [Track<'_>]) -> Result<bool, NoMem
             first = first && !is_preceded(model, track, made)?;
         }
         if first && model.apply(&made.event)? == Reply::Fits {
-            tracks[k].next += 1;
+            if let Some(track) = tracks.get_mut(k) {
+                track.next = track.next.wrapping_add(1);
+            }
             return Ok(true);
         }
     }
