@@ -1,19 +1,20 @@
 //! An example: two threads share a collection of accounts, each a record of two words, the number of its owner and its balance.
 //!
-//! Each thread opens accounts, and closes every second one again. Behind that a scan adds up the balances of those that are
-//! left, and they are packed into the fewest blocks of memory. No thread waits for the other.
+//! Each thread opens accounts, and closes every second one again. Behind that those that are left are packed
+//! into the fewest blocks of memory, and a scan adds up their balances. No thread waits for the other.
 #![tactic(auto)]
 
-ghost use Rattle.std.specs.Prelude.{◌≡◌, ◌≢◌, ◌<◌, ◌∷◌, [], IfOk, length};
+ghost use Rattle.std.specs.Prelude.{◌≡◌, ◌≢◌, ◌-◌, ◌^◌, ◌<◌, ◌∷◌, [], IfOk, length};
 ghost use Rattle.smc_shape.specs.Layout.{asked, width_of};
-ghost use Rattle.smc_region.specs.Callers.{IsPassOf};
+ghost use Rattle.smc_core.specs.declared.phase.Phase.TheVariants.{Idle};
+ghost use Rattle.smc_region.specs.Callers.{IsPassOf, IsSame};
 ghost use Rattle.smc_does.specs.Does.{OwnsNone};
 
 use anyhow::bail;
 use smc_compact::pack;
 use smc_core::Opening;
 use smc_objects::{Scan, add_one, read, remove_one};
-use smc_region::{Pass, Region};
+use smc_region::{Pass, Region, Section};
 use smc_shape::{CollShape, Shape};
 use std::alloc::Global;
 use std::thread::{Threads, join};
@@ -43,23 +44,34 @@ fn work(region: &Region, pass: Pass, owner: u32, many: u32) -> Pass
     pass
 }
 
+/// Adds up the balances of the accounts that a scan comes to.
+fn add_up(section: &mut Section<'_>) -> u64
+    requires idle { section.old.local.stand.phase ≡ Idle }
+    requires accounts { (0 < length section.old.shape.colls) × (width_of section.old.shape 0 ≡ 2) }
+    requires first { length section.old.local.stand.scans < 2 ^ 32 - 1 }
+    ensures same { IsSame section.old section.new }
+    ensures idle { section.new.local.stand.phase ≡ Idle }
+{
+    let slots = section.region().shape().slots(ACCOUNTS);
+    let mut scan = Scan::begin(section, ACCOUNTS);
+    let mut sum = 0u64;
+    loop {
+        let Some(account) = scan.next(section) else {
+            return sum;
+        };
+        sum = sum.wrapping_add(read(section, account, BALANCE));
+    }
+}
+
 /// Adds up the balances of all accounts, in one section.
 fn total(region: &Region, pass: Pass) -> (Pass, u64)
     requires here { IsPassOf region.now pass }
     requires accounts { (0 < length region.now.about.shape.colls) × (width_of region.now.about.shape 0 ≡ 2) }
-    requires free { OwnsNone pass }
     ensures home { IsPassOf region.now result.0 }
-    ensures free { OwnsNone result.0 }
 {
     let mut section = pass.enter(region);
-    let mut scan = Scan::begin(&mut section, ACCOUNTS);
-    let mut sum = 0u64;
-    loop {
-        let Some(account) = scan.next(&mut section) else {
-            return (section.leave(), sum);
-        };
-        sum = sum.wrapping_add(read(&mut section, account, BALANCE));
-    }
+    let sum = add_up(&mut section);
+    (section.leave(), sum)
 }
 
 /// Opens a region of two passes, with room for 4,096 accounts.
@@ -93,8 +105,8 @@ fn main(rt: HostRuntime) -> anyhow::Result<()> {
     // what the second pass has done is known to the first from here on
     let note = second.note(&region);
     first.learn(&region, note);
-    let (first, sum) = total(&region, first);
-    let (_, packed) = pack(first, &region, ACCOUNTS, 1_000);
+    let (first, packed) = pack(first, &region, ACCOUNTS, 1_000);
+    let (_, sum) = total(&region, first);
     println!(rt; "balance {sum}")?;
     println!(rt; "{} accounts in {} blocks", packed.census.objects, packed.census.blocks)?;
     Ok(())
