@@ -67,6 +67,11 @@ pub record LoadsRow (schema : Schema) (table coll : ℕ) (old new : Entries) (wo
   pub adds : AddsRow coll (record_of schema.columns old words) (Ok number) calls
   pub puts : PutsKey schema.keyed table (slice_index words 0) number old new
 
+-- the row of these words is added as the object of this number, its references found by the keys as they stand; no key is put
+pub record AddsAs (schema : Schema) (coll : ℕ) (keys : Entries) (words : List ℕ) (number : Number) (calls : List CallEnd) : Type 0 where
+  pub row : AreRowWords schema words
+  pub adds : AddsRow coll (record_of schema.columns keys words) (Ok number) calls
+
 -- both tries to add it are refused
 pub record RefusesRow (schema : Schema) (coll : ℕ) (keys : Entries) (words : List ℕ) (calls : List CallEnd) : Type 0 where
   pub row : AreRowWords schema words
@@ -80,6 +85,12 @@ MayAddRow coll words calls = (calls ≡ []) ⊎ ((number : Number) × AddsRow co
 -- the row is added as the object of this number
 abbrev pub LoadsAs : Schema → ℕ → ℕ → Entries → Entries → List ℕ → Number → List CallEnd → Type 0
 LoadsAs schema table coll old new words number calls = (loads : LoadsRow schema table coll old new words calls) × (loads.number ≡ number)
+
+-- how the adding of one row ends, whose key is not put
+abbrev pub AddEnds : Result Number RowFault → Schema → ℕ → Entries → List ℕ → Caller → Caller → Type 0
+AddEnds (Ok number) schema coll keys words before after = DoesSome before after (AddsAs schema coll keys words number)
+AddEnds (Err row.Full) schema coll keys words before after = DoesSome before after (RefusesRow schema coll keys words)
+AddEnds (Err row.NoMemory) schema coll keys words before after = after ≡ before
 
 -- how the loading of one row ends
 abbrev pub RowEnds : Result Number RowFault → Schema → ℕ → ℕ → Entries → Entries → List ℕ → Caller → Caller → Type 0

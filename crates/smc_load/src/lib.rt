@@ -21,5 +21,5 @@ mod table;
 pub use fault::LoadFault;
 pub use files::load;
 pub use references::place_of;
-pub use rows::{RowFault, load_row};
+pub use rows::{RowFault, add_row, load_row};
 pub use table::load_rows;

@@ -2,8 +2,8 @@
 //!
 //! `failed` has the one error with its count, `source`, `shelf` and `sink` the traits and `write_all`, `mem_source`,
 //! `mem_shelf` and `mem_sink` the versions in memory, over `calls` and `copy`. `real` has the adapters for std's readers
-//! and writers, and `dir_shelf` the files of the current folder: the trusted edge. It
-//! stands on `smc_words`; each crate that reads or writes stands on it, and may rely on this: told bytes move as the
+//! and writers, and `dir_shelf` the files of the current folder: the trusted edge. `gate` is what workers of a group pass before
+//! their commands. It stands on `smc_words`; each crate that reads or writes stands on it, and may rely on this: told bytes move as the
 //! answers say, and a call fails only where the count of faults rose. `specs/Causes.antt` defines why a call may fail,
 //! `specs/Told.antt` and `specs/Pieces.antt` what becomes of told bytes, `specs/InMemory.antt` the
 //! versions in memory, `specs/Shelves.antt` files by name, and `specs/Folder.antt` which names a folder has.
@@ -13,6 +13,7 @@ mod calls;
 mod copy;
 mod dir_shelf;
 mod failed;
+mod gate;
 mod mem_shelf;
 mod mem_sink;
 mod mem_source;
@@ -23,6 +24,7 @@ mod source;
 
 pub use dir_shelf::DirShelf;
 pub use failed::Failed;
+pub use gate::{Gate, OpenGate};
 pub use mem_shelf::MemShelf;
 pub use mem_sink::MemSink;
 pub use mem_source::MemSource;

@@ -1,54 +1,34 @@
-use Rattle.std.proofs.Common.{◌≡◌, ℕ, List, Result, Ok, inr, length, refl, sym, subst, ap, ◌∙◌}
-use Rattle.std.specs.Prelude.{IsTrue, slice_index}
+use Rattle.std.proofs.Common.{◌≡◌, ℕ, List, Result, Ok, Err, subst, ap, ◌∙◌}
+use Rattle.std.specs.Prelude.{slice_index}
 use Rattle.smc_words.specs.declared.number.Number.{Number}
-use Rattle.smc_shape.specs.Layout.{Layout, width_of}
-use Rattle.smc_core.specs.Add.{has_no_blank}
-use Rattle.smc_types.specs.declared.column.Column.{Column}
-use Rattle.smc_does.specs.Does.{DoesSome}
-use Rattle.smc_objects.specs.Alone.{AddsRow}
-use Rattle.smc_objects.specs.declared.adding.Full.{Full}
-use Rattle.smc_load.specs.Loading.{PutsKey, record_of}
-use Rattle.smc_load.proofs.RecordLaws.{record-width}
-use Rattle.smc_load.proofs.WordLaws.{are-small}
+use Rattle.smc_load.specs.Loading.{AddEnds}
+use Rattle.smc_load.specs.declared.rows.RowFault.{RowFault}
+use Rattle.smc_load.proofs.RowEndings.{put-ends, unadded-ends, unput-ends}
 use Rattle.smc_load.proofs.rows.load_row.Goals as goal
 
-pub add_one-pass-requires-clause-width : goal.add_one-pass-requires-clause-width
-add_one-pass-requires-clause-width c =
-    let schema = c.args.schema.now in
-    let keys = c.args.keys.now in
-    let words = c.args.words.now.items in
-    let done = subst (λ (k : List Column). c.push_references.new.words.items ≡ record_of k keys words) c.as_slice.ensures.columns c.in-Ok.ensures.done in
-    ap length c.deref-2.ensures.value ∙ ap length done ∙ record-width schema keys words c.requires.row ∙ c.requires.width
-    ∙ ap (λ (k : Layout). width_of k c.args.coll) (sym c.requires.here.1)
-
-pub add_one-pass-requires-clause-values : goal.add_one-pass-requires-clause-values
-add_one-pass-requires-clause-values c =
-    let small = are-small c.args.schema.now c.args.words.now.items c.requires.row in
-    subst (λ (k : List ℕ). IsTrue (has_no_blank k)) (sym c.deref-2.ensures.value) (c.in-Ok.ensures.values small)
-
--- the object was added, and its key was not put
+-- the object was not added
 pub returns-in-Err : goal.returns-in-Err
 returns-in-Err c =
-    let keys = c.args.keys.now in
     let words = c.args.words.now.items in
-    let last = c.add_one-pass.result.0 in
-    let number = c.in-Ok-answer.number in
-    let done = subst (λ (k : List Column). c.push_references.new.words.items ≡ record_of k keys words) c.as_slice.ensures.columns c.in-Ok.ensures.done in
-    let adds = subst (λ (k : Result Number Full). DoesSome c.args.pass last (AddsRow c.args.coll c.deref-2.result.now k)) c.in-Ok-answer.is c.add_one-pass.ensures.done in
-    let as_record = subst (λ (k : List ℕ). DoesSome c.args.pass last (AddsRow c.args.coll k (Ok number))) (c.deref-2.ensures.value ∙ done) adds in
-    (c.in-Err.ensures.kept, (as_record.0, as_record.1, inr (number, as_record.2)))
+    let last = c.add_row-pass.result.0 in
+    let ends = subst (λ (k : Result Number RowFault). AddEnds k c.args.schema.now c.args.coll c.args.keys.now words c.args.pass last) c.in-Err.is c.add_row-pass.ensures.ends in
+    unadded-ends c.in-Err.fault c.args.schema.now c.args.table c.args.coll c.args.keys.now words c.args.pass last ends
 
--- the object was added, and its key was put
+-- it was added, and its key was not put
+pub returns-in-Err-put_key : goal.returns-in-Err-put_key
+returns-in-Err-put_key c =
+    let words = c.args.words.now.items in
+    let last = c.add_row-pass.result.0 in
+    let number = c.in-Ok.number in
+    let ends = subst (λ (k : Result Number RowFault). AddEnds k c.args.schema.now c.args.coll c.args.keys.now words c.args.pass last) c.in-Ok.is c.add_row-pass.ensures.ends in
+    unput-ends number c.args.schema.now c.args.table c.args.coll c.args.keys.now c.put_key.new.keys words c.args.pass last ends c.in-Err-put_key.ensures.kept
+
+-- it was added, and its key was put
 pub returns-in-Ok-put_key : goal.returns-in-Ok-put_key
 returns-in-Ok-put_key c =
-    let schema = c.args.schema.now in
-    let keys = c.args.keys.now in
     let words = c.args.words.now.items in
-    let last = c.add_one-pass.result.0 in
-    let number = c.in-Ok-answer.number in
-    let done = subst (λ (k : List Column). c.push_references.new.words.items ≡ record_of k keys words) c.as_slice.ensures.columns c.in-Ok.ensures.done in
-    let adds = subst (λ (k : Result Number Full). DoesSome c.args.pass last (AddsRow c.args.coll c.deref-2.result.now k)) c.in-Ok-answer.is c.add_one-pass.ensures.done in
-    let as_record = subst (λ (k : List ℕ). DoesSome c.args.pass last (AddsRow c.args.coll k (Ok number))) (c.deref-2.ensures.value ∙ done) adds in
+    let last = c.add_row-pass.result.0 in
+    let number = c.in-Ok.number in
+    let ends = subst (λ (k : Result Number RowFault). AddEnds k c.args.schema.now c.args.coll c.args.keys.now words c.args.pass last) c.in-Ok.is c.add_row-pass.ensures.ends in
     let key = c.first_word-key.ensures ∙ ap (λ (k : List ℕ). slice_index k 0) c.deref.ensures.value in
-    let puts = subst (λ (k : ℕ). PutsKey schema.keyed c.args.table k number keys c.put_key.new.keys) key c.in-Ok-put_key.ensures.done in
-    (as_record.0, as_record.1, (record { row = c.requires.row; number = number; adds = as_record.2; puts = puts }, refl))
+    put-ends number c.args.schema.now c.args.table c.args.coll c.first_word-key.result c.args.keys.now c.put_key.new.keys words c.args.pass last ends key c.in-Ok-put_key.ensures.done
