@@ -74,8 +74,11 @@ impl Hand {
             return None;
         }
         let at = self.draw(many);
-        let from = if own { &self.own } else { &self.met };
-        from.get(at).copied()
+        if own {
+            self.own.get(at).copied()
+        } else {
+            self.met.get(at).copied()
+        }
     }
 
     /// Notes what was told by a call between these two moments.

@@ -108,6 +108,9 @@ fn main(rt: HostRuntime) -> anyhow::Result<()> {
     let (first, packed) = pack(first, &region, ACCOUNTS, 1_000);
     let (_, sum) = total(&region, first);
     println!(rt; "balance {sum}")?;
-    println!(rt; "{} accounts in {} blocks", packed.census.objects, packed.census.blocks)?;
+    println!(rt;
+        "{} accounts in {} blocks",
+        packed.census.objects, packed.census.blocks
+    )?;
     Ok(())
 }

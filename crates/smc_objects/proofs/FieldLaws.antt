@@ -35,7 +35,7 @@ held_within shape pass l f x here =
     let b = ranges_then shape f.opening empty_world f.machine r.valid (was r) in
     let within : pass < shape.passes = omega (arith, slice_get_within f.machine.locals pass l f.stands.0, b.backs.count) in
     let stands = subst (λ (k : Stand). (y : Held) → Contains k.held y → IsHeldWithin shape y) (b.backs.same pass l f.stands.0)
-        (λ y in_it. All-contains (IsHeldWithin shape) _ y (b.rule.stands pass within).held in_it) in
+    (λ y in_it. All-contains (IsHeldWithin shape) _ y (b.rule.stands pass within).held in_it) in
     (stands x here).1
 
 module _ (shape : Layout) where

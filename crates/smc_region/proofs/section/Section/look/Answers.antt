@@ -7,14 +7,18 @@ use Rattle.smc_region.proofs.section.Section.look.Goals as goal
 pub abandon-requires : goal.abandon-requires
 abandon-requires g c =
     let s = c.args.self.now in let t = c.see_entry.new.self in
-    record { phase = abandons-by t.local.stand.phase (looker s.local.stand.phase) c.args.number c.in-Frozen.slot
-        (abandons-on s.shape s.local t.local (looker s.local.stand.phase) c.args.number c.in-Frozen.slot _ _ c.in-Frozen.ensures.learnt (search rules)) }
+    record {
+      phase = abandons-by t.local.stand.phase (looker s.local.stand.phase) c.args.number c.in-Frozen.slot
+          (abandons-on s.shape s.local t.local (looker s.local.stand.phase) c.args.number c.in-Frozen.slot _ _ c.in-Frozen.ensures.learnt (search rules));
+    }
 
 pub help-requires : goal.help-requires
 help-requires g c =
     let s = c.args.self.now in let t = c.see_entry.new.self in
-    record { phase = helps-by t.local.stand.phase (looker s.local.stand.phase) c.args.number c.in-Locked.slot
-        (helps-on s.shape s.local t.local (looker s.local.stand.phase) c.args.number c.in-Locked.slot _ _ c.in-Locked.ensures.learnt (search rules)) }
+    record {
+      phase = helps-by t.local.stand.phase (looker s.local.stand.phase) c.args.number c.in-Locked.slot
+          (helps-on s.shape s.local t.local (looker s.local.stand.phase) c.args.number c.in-Locked.slot _ _ c.in-Locked.ensures.learnt (search rules));
+    }
 
 pub returns-else-calm-clause-learnt : goal.returns-else-calm-clause-learnt
 returns-else-calm-clause-learnt g c =
