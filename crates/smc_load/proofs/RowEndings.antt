@@ -17,7 +17,7 @@ put-ends number schema table coll key old new words before after adds first puts
   adds.0,
   adds.1,
   (
-    record { row = adds.2.row; number = number; adds = adds.2.adds; puts = subst (λ (k : ℕ). PutsKey schema.keyed table k number old new) first puts },
+    record { row = adds.2.row; number = number; home = adds.2.home; adds = adds.2.adds; puts = subst (λ (k : ℕ). PutsKey schema.keyed table k number old new) first puts },
     refl,
   ),
 )
@@ -25,7 +25,7 @@ put-ends number schema table coll key old new words before after adds first puts
 -- it was added, and its key was not put
 pub unput-ends : (number : Number) (schema : Schema) (table coll : ℕ) (old new : Entries) (words : List ℕ) (before after : Caller) → AddEnds (Ok number) schema coll old words before after
     → new ≡ old → RowEnds (Err NoMemory) schema table coll old new words before after
-unput-ends number schema table coll old new words before after adds kept = (kept, (adds.0, adds.1, inr (number, adds.2.adds)))
+unput-ends number schema table coll old new words before after adds kept = (kept, (adds.0, adds.1, inr (number, adds.2.home, adds.2.adds)))
 
 -- it was not added
 pub unadded-ends : (fault : RowFault) (schema : Schema) (table coll : ℕ) (keys : Entries) (words : List ℕ) (before after : Caller) → AddEnds (Err fault) schema coll keys words before after

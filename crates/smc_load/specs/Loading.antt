@@ -64,12 +64,15 @@ PutsKey false table key number old new = new ≡ old
 pub record LoadsRow (schema : Schema) (table coll : ℕ) (old new : Entries) (words : List ℕ) (calls : List CallEnd) : Type 0 where
   pub row : AreRowWords schema words
   pub number : Number
+  pub home : number.coll ≡ coll
   pub adds : AddsRow coll (record_of schema.columns old words) (Ok number) calls
   pub puts : PutsKey schema.keyed table (slice_index words 0) number old new
 
--- the row of these words is added as the object of this number, its references found by the keys as they stand; no key is put
+-- the row of these words is added as the object of the collection that has this number, its references found by the keys
+-- as they stand; no key is put
 pub record AddsAs (schema : Schema) (coll : ℕ) (keys : Entries) (words : List ℕ) (number : Number) (calls : List CallEnd) : Type 0 where
   pub row : AreRowWords schema words
+  pub home : number.coll ≡ coll
   pub adds : AddsRow coll (record_of schema.columns keys words) (Ok number) calls
 
 -- both tries to add it are refused
@@ -78,9 +81,9 @@ pub record RefusesRow (schema : Schema) (coll : ℕ) (keys : Entries) (words : L
   pub cause : Full
   pub adds : AddsRow coll (record_of schema.columns keys words) (Err cause) calls
 
--- an object of these words may be added, and nothing else is done
+-- an object of these words may be added to the collection, and nothing else is done
 abbrev pub MayAddRow : ℕ → List ℕ → List CallEnd → Type 0
-MayAddRow coll words calls = (calls ≡ []) ⊎ ((number : Number) × AddsRow coll words (Ok number) calls)
+MayAddRow coll words calls = (calls ≡ []) ⊎ ((number : Number) × (number.coll ≡ coll) × AddsRow coll words (Ok number) calls)
 
 -- the row is added as the object of this number
 abbrev pub LoadsAs : Schema → ℕ → ℕ → Entries → Entries → List ℕ → Number → List CallEnd → Type 0

@@ -1,5 +1,6 @@
 use Rattle.std.proofs.Common.{◌≡◌, ℕ, List, Result, Ok, Err, length, sym, subst, ap, ◌∙◌}
-use Rattle.std.specs.Prelude.{IsTrue}
+use Rattle.std.specs.Prelude.{IfOk, IsTrue}
+use Rattle.smc_words.specs.Number.{FitsNumber}
 use Rattle.smc_words.specs.declared.number.Number.{Number}
 use Rattle.smc_shape.specs.Layout.{Layout, width_of}
 use Rattle.smc_core.specs.Add.{has_no_blank}
@@ -36,7 +37,8 @@ returns-in-Ok-answer-clause-ends c =
     let done = subst (λ (k : List Column). c.push_references.new.words.items ≡ record_of k keys words) c.as_slice.ensures.columns c.in-Ok.ensures.done in
     let adds = subst (λ (k : Result Number Full). DoesSome c.args.pass last (AddsRow c.args.coll c.deref.result.now k)) c.in-Ok-answer.is c.add_one-pass.ensures.done in
     let as_record = subst (λ (k : List ℕ). DoesSome c.args.pass last (AddsRow c.args.coll k (Ok number))) (c.deref.ensures.value ∙ done) adds in
-    (as_record.0, as_record.1, record { row = c.requires.row; adds = as_record.2 })
+    let known = subst (λ (k : Result Number Full). IfOk k (λ n. FitsNumber n × (n.coll ≡ c.args.coll))) c.in-Ok-answer.is c.add_one-pass.ensures.number in
+    (as_record.0, as_record.1, record { row = c.requires.row; home = known.1; adds = as_record.2 })
 
 -- it was refused
 pub returns-in-Err-clause-ends : goal.returns-in-Err-clause-ends
