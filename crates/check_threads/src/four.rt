@@ -54,49 +54,101 @@ fn pack(region: &Region, pass: Pass, many: u32) -> Pass
     pass
 }
 
+/// A pass that has made calls, and what they told.
+type Told = (Pass, Result<Vec<Made>, NoMemory>);
+
+/// Two threads make calls.
+fn work_two<R: Threads + Sync>(
+    rt: &R,
+    region: &Region,
+    clock: &AtomicU64,
+    one: Pass,
+    left: Hand,
+    two: Pass,
+    right: Hand,
+    many: u32,
+) -> (Told, Told)
+    requires one { IsPassOf region.now one }
+    requires two { IsPassOf region.now two }
+    requires coll { 0 < length region.now.about.shape.colls }
+    requires width { width_of region.now.about.shape 0 ≡ 1 }
+    ensures one { IsPassOf region.now result.0.0 × (result.0.0.number ≡ one.number) }
+    ensures two { IsPassOf region.now result.1.0 × (result.1.0.number ≡ two.number) }
+{
+    join(
+        rt,
+        || work(region, clock, one, left, many),
+        || work(region, clock, two, right, many),
+    )
+}
+
+/// One thread makes calls, and one drives rounds.
+fn work_and_pack<R: Threads + Sync>(
+    rt: &R,
+    region: &Region,
+    clock: &AtomicU64,
+    three: Pass,
+    hand: Hand,
+    four: Pass,
+    many: u32,
+) -> (Told, Pass)
+    requires three { IsPassOf region.now three }
+    requires four { IsPassOf region.now four }
+    requires free { OwnsNone four }
+    requires coll { 0 < length region.now.about.shape.colls }
+    requires width { width_of region.now.about.shape 0 ≡ 1 }
+    ensures three { IsPassOf region.now result.0.0 × (result.0.0.number ≡ three.number) }
+    ensures four { IsPassOf region.now result.1 × (result.1.number ≡ four.number) }
+{
+    join(
+        rt,
+        || work(region, clock, three, hand, many),
+        || pack(region, four, many / 16),
+    )
+}
+
 /// What came of four threads: the passes, and what was told in three of them.
 #[derive(Drop)]
 struct Worked {
-    one: (Pass, Result<Vec<Made>, NoMemory>),
-    two: (Pass, Result<Vec<Made>, NoMemory>),
-    three: (Pass, Result<Vec<Made>, NoMemory>),
+    one: Told,
+    two: Told,
+    three: Told,
     four: Pass,
 }
 
 /// Three threads make calls, and one drives rounds.
 fn work_all<R: Threads + Sync>(
     rt: &R,
+    alloc: Global,
     region: &Region,
-    hands: (Hand, Hand, Hand),
-    passes: (Pass, Pass, Pass, Pass),
+    one: Pass,
+    two: Pass,
+    three: Pass,
+    four: Pass,
     many: u32,
 ) -> Worked
-    requires one { IsPassOf region.now passes.0 }
-    requires two { IsPassOf region.now passes.1 }
-    requires three { IsPassOf region.now passes.2 }
-    requires four { IsPassOf region.now passes.3 }
-    requires free { OwnsNone passes.3 }
+    requires one { IsPassOf region.now one }
+    requires two { IsPassOf region.now two }
+    requires three { IsPassOf region.now three }
+    requires four { IsPassOf region.now four }
+    requires free { OwnsNone four }
     requires coll { 0 < length region.now.about.shape.colls }
     requires width { width_of region.now.about.shape 0 ≡ 1 }
-    ensures one { IsPassOf region.now result.one.0 × (result.one.0.number ≡ passes.0.number) }
-    ensures two { IsPassOf region.now result.two.0 × (result.two.0.number ≡ passes.1.number) }
-    ensures three { IsPassOf region.now result.three.0 × (result.three.0.number ≡ passes.2.number) }
-    ensures four { IsPassOf region.now result.four × (result.four.number ≡ passes.3.number) }
+    ensures one { IsPassOf region.now result.one.0 × (result.one.0.number ≡ one.number) }
+    ensures two { IsPassOf region.now result.two.0 × (result.two.0.number ≡ two.number) }
+    ensures three { IsPassOf region.now result.three.0 × (result.three.0.number ≡ three.number) }
+    ensures four { IsPassOf region.now result.four × (result.four.number ≡ four.number) }
 {
     let clock = &AtomicU64::new(0);
-    let (one, two, three, four) = passes;
+    let (left, right, last) = (
+        Hand::new(alloc, 1),
+        Hand::new(alloc, 2),
+        Hand::new(alloc, 3),
+    );
     let ((one, two), (three, four)) = join(
         rt,
-        || join(
-            rt,
-            || work(region, clock, one, hands.0, many),
-            || work(region, clock, two, hands.1, many),
-        ),
-        || join(
-            rt,
-            || work(region, clock, three, hands.2, many),
-            || pack(region, four, many / 16),
-        ),
+        || work_two(rt, region, clock, one, left, two, right, many),
+        || work_and_pack(rt, region, clock, three, last, four, many),
     );
     Worked {
         one,
@@ -149,12 +201,7 @@ pub fn work_beside<R: Threads + Sync>(
     let Some(one) = passes.pop() else {
         return Err(NoMemory);
     };
-    let hands = (
-        Hand::new(alloc, 1),
-        Hand::new(alloc, 2),
-        Hand::new(alloc, 3),
-    );
-    let worked = work_all(rt, &region, hands, (one, two, three, four), many);
+    let worked = work_all(rt, alloc, &region, one, two, three, four, many);
     let Worked {
         one: (one, first),
         two: (two, second),
