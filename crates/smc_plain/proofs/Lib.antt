@@ -1,0 +1,4 @@
+mod Sections
+mod ObjectTurns
+mod StatTurns
+mod CommandTurns
