@@ -1,24 +1,23 @@
 -- What commands on one object reply, and what they make of the world.
-use Rattle.std.proofs.Common.{◌≡◌, ℕ, Bool, true, false, Option, Some, None, List, [], ◌∷◌, ◌++◌, inl, inr, refl, sym, subst, ap, ◌∙◌}
-use Rattle.std.specs.Prelude.{if◌then◌else◌, codes, slice_get, slice_index, option_and_then, option_map}
+use Rattle.std.proofs.Common.{◌≡◌, ℕ, Bool, true, false, Option, Some, None, List, [], ◌∷◌, inl, inr, sym, subst, ap, ◌∙◌}
+use Rattle.std.specs.Prelude.{if◌then◌else◌, codes, slice_index, option_and_then, option_map}
 use Rattle.smc_words.specs.declared.number.Number.{Number}
 use Rattle.smc_model.specs.declared.event.Event.{Event}
-use Rattle.smc_model.specs.declared.event.Event.TheVariants.{Add, Look, Remove, Write}
+use Rattle.smc_model.specs.declared.event.Event.TheVariants.{Look, Remove, Write}
 use Rattle.smc_model.specs.World.{World, Replay, is_present, world_after, world_through}
 use Rattle.smc_trace.specs.Named.{looks, removes, writes}
 use Rattle.smc_trace.specs.Trace.{CallEnd, events_in}
 use Rattle.smc_trace.proofs.TraceSteps.{events_in-append}
-use Rattle.smc_objects.specs.Alone.{InSection, RemovesObject, SetsField}
+use Rattle.smc_objects.specs.Alone.{RemovesObject, SetsField}
 use Rattle.smc_query.specs.Trees.{Word}
 use Rattle.smc_types.specs.Records.{value_words}
 use Rattle.smc_types.specs.declared.column.Column.{Column}
 use Rattle.smc_types.specs.declared.row.Value.{Value}
 use Rattle.smc_types.specs.declared.schema.Schema.{Schema}
-use Rattle.smc_script.specs.Tables.{column_at}
 use Rattle.smc_load.specs.Loading.{place_of}
 use Rattle.smc_replies.specs.Objects.{OnObject, RemovesNamed, SetsBy, SetsObject, found_line, null_line}
 use Rattle.smc_plain.specs.Objects.{after, remove_in, remove_text, set_in, set_text, write_at, write_of}
-use Rattle.smc_plain.specs.Plain.{Plain, Turn, replies, on_object, by_schema}
+use Rattle.smc_plain.specs.Plain.{Plain, replies, on_object, by_schema}
 use Rattle.smc_plain.proofs.Sections.{section-world, section-replay}
 
 -- the same world and the same reply

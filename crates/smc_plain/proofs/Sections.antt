@@ -1,5 +1,5 @@
 -- What the calls of a section make of a world.
-use Rattle.std.proofs.Common.{◌≡◌, List, [], ◌∷◌, ◌++◌, sym, subst, ap, ◌∙◌}
+use Rattle.std.proofs.Common.{◌≡◌, List, [], ◌∷◌, ◌++◌, subst, ap, ◌∙◌}
 use Rattle.smc_model.specs.declared.event.Event.{Event}
 use Rattle.smc_model.specs.declared.event.Event.TheVariants.{Enter, Leave}
 use Rattle.smc_model.specs.World.{World, Replay, world_through}

@@ -5,11 +5,11 @@ use Rattle.smc_model.specs.World.{World, Replay, empty_world, world_through}
 use Rattle.smc_model.specs.Scans.{ScansOnce}
 use Rattle.smc_still.specs.Still.{AreEnded}
 use Rattle.smc_trace.specs.Trace.{CallEnd, events_in}
-use Rattle.smc_script.specs.Trees.{CommandTree, drop_fold, remove, set, stat}
+use Rattle.smc_script.specs.Trees.{CommandTree, drop_fold, query, remove, set, stat}
 use Rattle.smc_replies.specs.Books.{Books, KnowsSame}
 use Rattle.smc_replies.specs.Commands.{RunsCommand}
 use Rattle.smc_replies.specs.Loads.{Scene}
-use Rattle.smc_plain.specs.Plain.{Plain, Turn, plain_command, replies}
+use Rattle.smc_plain.specs.Plain.{Plain, plain_command, replies}
 use Rattle.smc_plain.specs.Tables.{Reader}
 
 -- the command comes to this reply, in the world that these calls leave, and the same names and folds are known behind it
@@ -19,9 +19,10 @@ pub record ComesTo (reader : Reader) (scene : Scene) (command : CommandTree) (pl
   pub turn : plain_command reader scene command plain
       ≡ replies (record { world = world_through plain.world (events_in calls); books = left; given = plain.given }) text
 
--- a command that counts, sets or removes, or drops a fold
+-- a command that counts, queries, sets or removes, or drops a fold
 abbrev pub IsShown : CommandTree → Type 0
 IsShown (stat place) = ⊤
+IsShown (query place tree) = ⊤
 IsShown (set place name column value) = ⊤
 IsShown (remove place name) = ⊤
 IsShown (drop_fold name) = ⊤

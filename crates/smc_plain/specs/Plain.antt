@@ -1,13 +1,12 @@
 -- Commands over a plain map of objects: what each comes to, on a world and what is known by names and keys.
-use Rattle.std.specs.Prelude.{ℕ, ◌+◌, Bool, true, false, if◌then◌else◌, Option, None, Some, List, [], ◌∷◌, ◌++◌, slice_index, Result, Ok, Err}
+use Rattle.std.specs.Prelude.{ℕ, ◌+◌, Bool, true, false, Option, None, Some, List, [], ◌∷◌, slice_index, Result, Ok, Err}
 use Rattle.smc_words.specs.declared.number.Number.{Number}
 use Rattle.smc_model.specs.declared.event.Event.TheVariants.{Add}
 use Rattle.smc_model.specs.World.{World, count_of, world_after}
 use Rattle.smc_compact.specs.declared.packing.Packed.{Packed}
 use Rattle.smc_folds.specs.Kinds.{without_first}
-use Rattle.smc_query.specs.Trees.{CondTree, ExprTree, QueryTree, Word}
+use Rattle.smc_query.specs.Trees.{Word}
 use Rattle.smc_types.specs.Tables.{the_tables}
-use Rattle.smc_types.specs.declared.row.Value.{Value}
 use Rattle.smc_types.specs.declared.schema.Schema.{Schema}
 use Rattle.smc_tbl.specs.declared.fault.TblFault.{TblFault}
 use Rattle.smc_plan.specs.Edits.{PlannedEdit}

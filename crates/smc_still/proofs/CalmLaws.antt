@@ -1,11 +1,11 @@
 -- What a scan visits while the world stands still.
-use Rattle.std.proofs.Common.{◌≡◌, ◌⊎◌, inl, inr, ⊎_elim, ℕ, Bool, true, false, List, [], ◌∷◌, ◌++◌, refl, sym, subst, ap, ◌∙◌, append_assoc, append-nil}
-use Rattle.std.specs.Prelude.{⊤, Contains, IsPermutation}
-use Rattle.std.specs.List.{AllByRecursion, flat_map}
+use Rattle.std.proofs.Common.{◌≡◌, ⊎_elim, ◌⊎◌, inl, inr, ℕ, List, [], ◌∷◌, ◌++◌, refl, sym, subst, ap, ◌∙◌, append_assoc, append-nil}
+use Rattle.std.specs.Prelude.{Contains, IsPermutation}
+use Rattle.std.specs.List.{AllByRecursion}
 use Rattle.smc_words.specs.declared.number.Number.{Number}
 use Rattle.smc_model.specs.declared.event.Event.{Event}
-use Rattle.smc_model.specs.declared.event.Event.TheVariants.{Add, Look, Read, Write, Remove, Begin, Visit, End, Enter, Leave, Told, Refused}
-use Rattle.smc_model.specs.World.{World, empty_world, world_after, world_through}
+use Rattle.smc_model.specs.declared.event.Event.TheVariants.{Look, Read, Begin, Visit, End}
+use Rattle.smc_model.specs.World.{World, Replay, IsAllowed, empty_world, world_after, world_through}
 use Rattle.smc_model.specs.Scans.{EachAfter, KeepsScanRule, PresentIn, PresentThroughout, EndsRightly, VisitsRightly}
 use Rattle.smc_model.proofs.HistoryLaws.{EachAfter-back, EachAfter-front, world_through-append}
 use Rattle.smc_still.specs.Still.{AreEnded, IsCalm, VisitsArePresent, numbers_in, numbers_visited, visited_by}
@@ -30,6 +30,12 @@ calm-throughout : (scan coll : ℕ) (number : Number) (events : List Event) (wor
 calm-throughout scan coll number [] world calm present = present
 calm-throughout scan coll number (event ∷ events) world calm present =
     (present, calm-throughout scan coll number events (world_after world event) calm.1 (subst (λ (w : World). PresentIn w coll number) (sym (calm-world scan event world calm.0)) present))
+
+-- what they ask of the worlds that they happen in they ask of the first
+pub calm-allowed : (scan : ℕ) (events : List Event) (world last : World) → AllByRecursion (IsCalm scan) events → Replay world events last → AllByRecursion (IsAllowed world) events
+calm-allowed scan [] world last calm replay = tt
+calm-allowed scan (event ∷ events) world last calm replay =
+    (replay.0, calm-allowed scan events world last calm.1 (subst (λ (w : World). Replay w events last) (calm-world scan event world calm.0) replay.1))
 
 -- they begin no scan, and end none
 calm-begins : (scan other coll : ℕ) (event : Event) → IsCalm scan event → event ≡ Begin other coll → ⊥

@@ -1,8 +1,8 @@
 -- The numbers that are present in a world.
-use Rattle.std.proofs.Common.{◌≡◌, ◌⊎◌, inl, inr, ⊎_elim, ℕ, suc, Bool, true, false, cond, Option, Some, None, IsSome, List, [], ◌∷◌, ◌++◌, map, length, refl, sym, subst, ap, ◌∙◌, T}
-use Rattle.std.specs.Prelude.{⊤, IsTrue, IsSomeAnd, filter, ◌&&◌}
+use Rattle.std.proofs.Common.{◌≡◌, ⊎_elim, ◌⊎◌, inl, inr, ℕ, suc, Bool, true, false, cond, Option, Some, List, [], ◌∷◌, map, length, refl, sym, subst, ap, ◌∙◌, T}
+use Rattle.std.specs.Prelude.{IsTrue, IsSomeAnd, filter, ◌&&◌}
 use Rattle.std.specs.Cmp.{eq_by_cmp_equiv}
-use Rattle.std.specs.FinMap.{entries, entries_sorted, find, is_sorted, get-entries, values}
+use Rattle.std.specs.FinMap.{entries, entries_sorted, find, is_sorted, get-entries}
 use Rattle.std.specs.FinMap.Entries.{below_all}
 use Rattle.std.specs.Ordering.{eq_by_cmp, is_eq, is_lt}
 use Rattle.std.specs.declared.cmp.Ordering.{Ordering}
@@ -11,7 +11,7 @@ use Rattle.smc_words.specs.declared.number.Number.{Number}
 use Rattle.smc_words.specs.Number.{number_cmp}
 use Rattle.smc_words.proofs.NumberLaws.{numbers_total}
 use Rattle.smc_model.specs.declared.object.Object.{Object}
-use Rattle.smc_model.specs.World.{World, count_of, is_present_in, object_of}
+use Rattle.smc_model.specs.World.{World, is_present_in}
 use Rattle.smc_model.specs.Scans.{PresentIn}
 use Rattle.smc_model.proofs.WorldLaws.{same_number}
 use Rattle.smc_still.specs.Still.{CountsAreNumbers, numbers_in}
