@@ -31,8 +31,8 @@ shown-plain bag sound reader scene (stat place) plain old new calls text last sh
   left = plain.books;
   known = stays plain.books old new known runs.0;
   turn = same-turn plain plain.world (world_through plain.world (events_in calls)) (objects_line (count_of plain.world place.coll)) text
-  (sym (stat-world place.coll runs.1.count calls runs.1.counts plain.world))
-  (ap (λ (w : World). objects_line (count_of w place.coll)) at
+      (sym (stat-world place.coll runs.1.count calls runs.1.counts plain.world))
+      (ap (λ (w : World). objects_line (count_of w place.coll)) at
       ∙ ap objects_line (sym (stat-count place.coll runs.1.count calls runs.1.counts before ended once)) ∙ sym runs.1.reply);
 }
 shown-plain bag sound reader scene (query place tree) plain old new calls text last shown before at ended known runs replay once = record {
@@ -44,7 +44,7 @@ shown-plain bag sound reader scene (set place name column value) plain old new c
   left = plain.books;
   known = stays plain.books old new known runs.0;
   turn = set-turn plain (schema_of the_tables place.table) column value (object_of plain.books.names place.coll name) calls text last
-  (by-name (SetsBy (schema_of the_tables place.table) column value) place.coll name calls text plain.books old known runs.1) replay;
+      (by-name (SetsBy (schema_of the_tables place.table) column value) place.coll name calls text plain.books old known runs.1) replay;
 }
 shown-plain bag sound reader scene (remove place name) plain old new calls text last shown before at ended known runs replay once = record {
   left = plain.books;
@@ -56,7 +56,7 @@ shown-plain bag sound reader scene (drop_fold name) plain old new calls text las
       left = left;
       known = record { names = known.names ∙ sym runs.names; folds = ap (λ (kinds : List Kind). without_first kinds name) known.folds ∙ sym runs.folds };
       turn = same-turn (record plain { books = left }) plain.world (world_through plain.world (events_in calls)) _ text
-      (ap (λ (cs : List CallEnd). world_through plain.world (events_in cs)) (sym runs.none)) (sym runs.reply);
+          (ap (λ (cs : List CallEnd). world_through plain.world (events_in cs)) (sym runs.none)) (sym runs.reply);
     }
 shown-plain bag sound reader scene (load place file) plain old new calls text last shown before at ended known runs replay once = absurd shown
 shown-plain bag sound reader scene (add place name row) plain old new calls text last shown before at ended known runs replay once = absurd shown

@@ -39,15 +39,13 @@ on-none plain calls text none null =
 remove-inner : (world : World) (number : Number) (gone : Bool) (inner : List CallEnd) → RemovesObject number gone inner → Replay world (events_in inner) (world_through world (events_in inner))
     → (remove_in world number ≡ world_through world (events_in inner)) × (gone ≡ is_present world number)
 remove-inner world number gone inner (inl (late, made)) replay =
-    let said = subst (λ (cs : List CallEnd). Replay world (events_in cs) (world_through world (events_in cs))) made replay in
-    (
+    let said = subst (λ (cs : List CallEnd). Replay world (events_in cs) (world_through world (events_in cs))) made replay in (
       chosen false (is_present world number) (world_after world (Remove number true)) world said.0 ∙ ap (λ (cs : List CallEnd). world_through world (events_in cs)) (sym made),
       late ∙ said.0,
     )
 remove-inner world number gone inner (inr (slot, made)) replay =
     let is : events_in inner ≡ Look number true ∷ Remove number gone ∷ [] = ap events_in made ∙ events_in-append (looks number (Some slot)) (removes number gone) in
-    let said = subst (λ (es : List Event). Replay world es (world_through world es)) is replay in
-    (
+    let said = subst (λ (es : List Event). Replay world es (world_through world es)) is replay in (
       chosen true (is_present world number) (world_after world (Remove number true)) world said.0 ∙ ap (world_through world) (sym is),
       said.1.0.1,
     )
@@ -72,15 +70,13 @@ set-inner : (world : World) (number : Number) (field word : ℕ) (found : Bool) 
     → Replay world (events_in inner) (world_through world (events_in inner))
     → ((if is_present world number then world_after world (Write number field word) else world) ≡ world_through world (events_in inner)) × (found ≡ is_present world number)
 set-inner world number field word false inner made replay =
-    let said = subst (λ (cs : List CallEnd). Replay world (events_in cs) (world_through world (events_in cs))) made replay in
-    (
+    let said = subst (λ (cs : List CallEnd). Replay world (events_in cs) (world_through world (events_in cs))) made replay in (
       chosen false (is_present world number) (world_after world (Write number field word)) world said.0 ∙ ap (λ (cs : List CallEnd). world_through world (events_in cs)) (sym made),
       said.0,
     )
 set-inner world number field word true inner (slot, made) replay =
     let is : events_in inner ≡ Look number true ∷ Write number field word ∷ [] = ap events_in made ∙ events_in-append (looks number (Some slot)) (writes number field word) in
-    let said = subst (λ (es : List Event). Replay world es (world_through world es)) is replay in
-    (
+    let said = subst (λ (es : List Event). Replay world es (world_through world es)) is replay in (
       chosen true (is_present world number) (world_after world (Write number field word)) world said.0 ∙ ap (world_through world) (sym is),
       said.0,
     )
@@ -100,7 +96,7 @@ set-object plain columns name value number calls text last sets replay =
     let inner = set-inner plain.world number (place_of columns sets.at) sets.word sets.found sets.sets.inner sets.sets.holds (section-replay calls sets.sets plain.world last replay) in
     same-turn plain (set_in columns name value plain.world number) (world_through plain.world (events_in calls)) (set_text plain.world number) text
     (ap (λ (o : Option Event). if is_present plain.world number then after plain.world o else plain.world) (write-is columns name value number calls text sets)
-        ∙ inner.0 ∙ sym (section-world calls sets.sets plain.world))
+    ∙ inner.0 ∙ sym (section-world calls sets.sets plain.world))
     (ap (λ (b : Bool). found_line b (codes "set\n")) (sym inner.1) ∙ sym sets.reply)
 
 pub set-turn : (plain : Plain) (by : Option Schema) (name : Word) (value : Value) (found : Option Number) (calls : List CallEnd) (text : List ℕ) (last : World)

@@ -23,8 +23,8 @@ module _ {X Y : Type 0} (order : X → X → Ordering) (total : IsTotalOrder ord
       cond_both (is_le (order x y)) (x ∷ y ∷ ys) (y ∷ placed order x ys) (λ (list : List X). IsPermutation (f x ++ (f y ++ flat_map f ys)) (flat_map f list))
       (λ before. IsPermutation-refl (f x ++ (f y ++ flat_map f ys)))
       (λ behind. IsPermutation-trans (f x ++ (f y ++ flat_map f ys)) (f y ++ (f x ++ flat_map f ys)) (f y ++ flat_map f (placed order x ys))
-          (exchange (f x) (f y) (flat_map f ys))
-          (IsPermutation-append_right (f y) (f x ++ flat_map f ys) (flat_map f (placed order x ys)) (spread-placed x ys)))
+      (exchange (f x) (f y) (flat_map f ys))
+      (IsPermutation-append_right (f y) (f x ++ flat_map f ys) (flat_map f (placed order x ys)) (spread-placed x ys)))
 
   spread-sorted : (xs : List X) → IsPermutation (flat_map f xs) (flat_map f (sorted order xs))
   spread-sorted [] = IsPermutation-refl []
@@ -34,4 +34,4 @@ module _ {X Y : Type 0} (order : X → X → Ordering) (total : IsTotalOrder ord
   pub spread-same : (xs ys : List X) → IsPermutation xs ys → IsPermutation (flat_map f xs) (flat_map f ys)
   spread-same xs ys same = IsPermutation-trans (flat_map f xs) (flat_map f (sorted order xs)) (flat_map f ys) (spread-sorted xs)
       (subst (λ (zs : List X). IsPermutation (flat_map f zs) (flat_map f ys)) (sorted-permutation order total exact xs ys same)
-          (IsPermutation-sym (flat_map f ys) (flat_map f (sorted order ys)) (spread-sorted ys)))
+      (IsPermutation-sym (flat_map f ys) (flat_map f (sorted order ys)) (spread-sorted ys)))

@@ -30,7 +30,7 @@ IsShown command = ⊥
 
 -- what such a command does and replies, behind a log whose scans have ended, is what it comes to on the plain map that the log leaves
 abbrev pub ShownArePlain : Type 0
-ShownArePlain = (reader : Reader) (scene : Scene) (command : CommandTree) (plain : Plain) (old new : Books) (calls : List CallEnd) (text : List ℕ) (last : World)
-    → IsShown command → (before : List Event) → plain.world ≡ world_through empty_world before → AreEnded before → KnowsSame plain.books old
+ShownArePlain = (reader : Reader) (scene : Scene) (command : CommandTree) (plain : Plain) (old new : Books) (calls : List CallEnd) (text : List ℕ)
+    (last : World) → IsShown command → (before : List Event) → plain.world ≡ world_through empty_world before → AreEnded before → KnowsSame plain.books old
     → RunsCommand scene command old new calls text → Replay plain.world (events_in calls) last → ScansOnce empty_world (before ++ events_in calls)
     → ComesTo reader scene command plain new calls text

@@ -147,7 +147,7 @@ plain_command reader scene (get place name) plain = on_object (object_of plain.b
     (λ number. by_schema (schema_of the_tables place.table) (λ schema. replies plain (get_text schema.columns plain.world number)) plain) plain
 plain_command reader scene (set place name column value) plain = on_object (object_of plain.books.names place.coll name)
     (λ number. by_schema (schema_of the_tables place.table)
-        (λ schema. replies (record plain { world = set_in schema.columns column value plain.world number }) (set_text plain.world number)) plain) plain
+    (λ schema. replies (record plain { world = set_in schema.columns column value plain.world number }) (set_text plain.world number)) plain) plain
 plain_command reader scene (remove place name) plain = on_object (object_of plain.books.names place.coll name)
     (λ number. replies (record plain { world = remove_in plain.world number }) (remove_text plain.world number)) plain
 plain_command reader scene (delete place filter) plain = delete_by scene place (delete_plan (table_name place.table) filter) plain
