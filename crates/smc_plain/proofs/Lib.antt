@@ -1,0 +1,7 @@
+mod Sections
+mod Scanned
+mod ObjectTurns
+mod StatTurns
+mod Spread
+mod QueryTurns
+mod CommandTurns

@@ -1,0 +1,6 @@
+pub mod Given
+pub mod Objects
+pub mod Tables
+pub mod Rows
+pub mod Plain
+pub mod Laws
