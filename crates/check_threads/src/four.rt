@@ -147,8 +147,14 @@ fn work_all<R: Threads + Sync>(
     );
     let ((one, two), (three, four)) = join(
         rt,
-        || work_two(rt, region, clock, one, left, two, right, many),
-        || work_and_pack(rt, region, clock, three, last, four, many),
+        ||
+            requires passes { IsPassOf region.now one × IsPassOf region.now two }
+            requires room { (0 < length region.now.about.shape.colls) × (width_of region.now.about.shape 0 ≡ 1) }
+        { work_two(rt, region, clock, one, left, two, right, many) },
+        ||
+            requires passes { IsPassOf region.now three × IsPassOf region.now four × OwnsNone four }
+            requires room { (0 < length region.now.about.shape.colls) × (width_of region.now.about.shape 0 ≡ 1) }
+        { work_and_pack(rt, region, clock, three, last, four, many) },
     );
     Worked {
         one,
