@@ -64,14 +64,7 @@ module _ {E : Type 0} where
       )
   adds-full by schema place name values words known now old new (Err fault) is are ends names folds says = tt
 
-  -- ---- get, set, remove
-
-  pub gets-done : (by : Option Schema) (schema : Schema) (number : Number) (found : Bool) (words : List ℕ) (old new : Caller) (reply : Result (List ℕ) E) → by ≡ Some schema
-      → length words ≡ columns_width schema.columns → DoesSome old new (InSection (ReadsObject number found words)) → IfOk reply (λ text. PrintsObject schema.columns found words text)
-      → IfOk reply (λ text. DoesSome old new (λ calls. GetsBy by number calls text))
-  gets-done by schema number found words old new (Ok text) is whole done says =
-      (done.0, done.1, subst (λ (s : Option Schema). GetsBy s number done.0 text) (sym is) (record { found = found; words = words; whole = whole; reads = done.2; reply = says }))
-  gets-done by schema number found words old new (Err fault) is whole done says = tt
+  -- ---- set, remove
 
   pub sets-done : (by : Option Schema) (schema : Schema) (name : Word) (value : Value) (number : Number) (at : ℕ) (column : Column) (word : ℕ) (found : Bool) (old new : Caller) (reply : Result (List ℕ) E)
       → by ≡ Some schema → column_at schema.columns name ≡ Some at → slice_get schema.columns at ≡ Some column → value_words column.kind value ≡ word ∷ []
