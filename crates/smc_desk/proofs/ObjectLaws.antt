@@ -1,6 +1,6 @@
 -- What the commands on one object do, told from the calls that they are made of.
 use Rattle.std.proofs.Common.{◌≡◌, ℕ, List, [], ◌∷◌, Option, Some, None, Result, Ok, Err, IfOk, inl, inr, refl, sym, subst, ap, ◌∙◌}
-use Rattle.std.specs.Prelude.{Bool, OnOk, codes, slice_get}
+use Rattle.std.specs.Prelude.{Bool, OnOk, codes, length, slice_get}
 use Rattle.smc_words.specs.declared.number.Number.{Number}
 use Rattle.smc_region.specs.Callers.{Caller}
 use Rattle.smc_trace.specs.Trace.{CallEnd}
@@ -8,6 +8,7 @@ use Rattle.smc_does.specs.Does.{DoesSome}
 use Rattle.smc_does.proofs.DoesLaws.{does-nothing}
 use Rattle.smc_objects.specs.Alone.{InSection, ReadsObject, RemovesObject, SetsField}
 use Rattle.smc_query.specs.Trees.{Word}
+use Rattle.smc_types.specs.Columns.{columns_width}
 use Rattle.smc_types.specs.Records.{value_words}
 use Rattle.smc_types.specs.declared.column.Column.{Column}
 use Rattle.smc_types.specs.declared.row.Value.{Value}
@@ -63,14 +64,7 @@ module _ {E : Type 0} where
       )
   adds-full by schema place name values words known now old new (Err fault) is are ends names folds says = tt
 
-  -- ---- get, set, remove
-
-  pub gets-done : (by : Option Schema) (schema : Schema) (number : Number) (found : Bool) (words : List ℕ) (old new : Caller) (reply : Result (List ℕ) E) → by ≡ Some schema
-      → DoesSome old new (InSection (ReadsObject number found words)) → IfOk reply (λ text. PrintsObject schema.columns found words text)
-      → IfOk reply (λ text. DoesSome old new (λ calls. GetsBy by number calls text))
-  gets-done by schema number found words old new (Ok text) is done says =
-      (done.0, done.1, subst (λ (s : Option Schema). GetsBy s number done.0 text) (sym is) (record { found = found; words = words; reads = done.2; reply = says }))
-  gets-done by schema number found words old new (Err fault) is done says = tt
+  -- ---- set, remove
 
   pub sets-done : (by : Option Schema) (schema : Schema) (name : Word) (value : Value) (number : Number) (at : ℕ) (column : Column) (word : ℕ) (found : Bool) (old new : Caller) (reply : Result (List ℕ) E)
       → by ≡ Some schema → column_at schema.columns name ≡ Some at → slice_get schema.columns at ≡ Some column → value_words column.kind value ≡ word ∷ []

@@ -1,15 +1,17 @@
 //! The commands on one object, by its name.
-ghost use Rattle.std.specs.Prelude.{◌≡◌, Err, IfOk, List, Ok, OnOk, Result, Some};
+ghost use Rattle.std.specs.Prelude.{◌≡◌, ◌<◌, Err, IfOk, List, Ok, OnOk, Result, Some, length};
 ghost use Rattle.smc_words.specs.declared.number.Number.{Number};
 ghost use Rattle.smc_region.specs.Callers.{IsPassOf, IsSame};
 ghost use Rattle.smc_does.specs.Does.{DoesSome, OwnsNone};
 ghost use Rattle.smc_folds.specs.Kinds.{Kind};
+ghost use Rattle.smc_shape.specs.Layout.{width_of};
+ghost use Rattle.smc_types.specs.Columns.{columns_width};
 ghost use Rattle.smc_types.specs.Tables.{the_tables};
 ghost use Rattle.smc_script.specs.Sound.{FitsColumn, FitsTable};
 ghost use Rattle.smc_script.specs.Tables as tables;
 ghost use Rattle.smc_replies.specs.Books.{object_of, with_name};
 ghost use Rattle.smc_replies.specs.Commands.{IsTableOf};
-ghost use Rattle.smc_replies.specs.Objects.{AddsBy, GetsBy, OnObject, RemovesNamed, SetsBy, add_line};
+ghost use Rattle.smc_replies.specs.Objects.{AddsBy, GetsBy, GetsObject, OnObject, RemovesNamed, SetsBy, add_line};
 ghost use Rattle.smc_desk.specs.Runs.{seen};
 
 use crate::books::{Books, Names};
@@ -21,7 +23,7 @@ use smc_objects::{read_one, remove_one, set_one};
 use smc_region::{Pass, Region};
 use smc_script::{Place, ScriptName, column_at};
 use smc_tokens::Name;
-use smc_types::{Catalog, Row, Value};
+use smc_types::{Catalog, Row, Schema, Value};
 use smc_words::{NoMemory, Number};
 use std::alloc::Global;
 
@@ -83,6 +85,26 @@ pub(crate) fn add(
     }
 }
 
+// Reads the object of this number into these words, which are as many as its columns have, and prints it.
+fn print_object(
+    alloc: Global,
+    schema: &Schema,
+    number: Number,
+    words: &mut [u64],
+    pass: Pass,
+    region: &Region,
+) -> (Pass, Result<Reply, NoMemory>)
+    requires here { IsPassOf region.now pass }
+    requires coll { number.coll < length pass.shape.colls }
+    requires width { length words.old ≡ width_of pass.shape number.coll }
+    requires whole { length words.old ≡ columns_width schema.now.columns }
+    ensures done { IfOk result.1 (λ reply. DoesSome pass result.0 (λ calls. GetsObject schema.now.columns number calls reply)) }
+    ensures home { IsSame pass result.0 × (OwnsNone pass → OwnsNone result.0) }
+{
+    let (pass, found) = read_one(pass, region, number, words);
+    (pass, object_reply(alloc, schema, found, words))
+}
+
 // Reads the object of this number, and prints it.
 fn get_object(
     alloc: Global,
@@ -105,8 +127,7 @@ fn get_object(
     let Ok(mut words) = vec![in alloc; 0u64; schema.width() as usize] else {
         return (pass, Err(NoMemory));
     };
-    let (pass, found) = read_one(pass, region, number, &mut words);
-    (pass, object_reply(alloc, schema, found, &words))
+    print_object(alloc, schema, number, &mut words, pass, region)
 }
 
 /// Prints the object of the name.

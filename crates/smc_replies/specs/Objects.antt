@@ -1,10 +1,10 @@
 -- What the commands on one object do, and what they reply.
-use Rattle.std.specs.Prelude.{◌≡◌, ◌⊎◌, ℕ, Bool, true, false, if◌then◌else◌, List, [], ◌∷◌, ◌++◌, codes, Option, Some, None, slice_get}
+use Rattle.std.specs.Prelude.{◌≡◌, ◌⊎◌, ℕ, Bool, true, false, if◌then◌else◌, List, [], ◌∷◌, ◌++◌, codes, length, Option, Some, None, slice_get}
 use Rattle.smc_words.specs.declared.number.Number.{Number}
 use Rattle.smc_trace.specs.Trace.{CallEnd}
 use Rattle.smc_objects.specs.Alone.{InSection, ReadsObject, RemovesObject, SetsField}
 use Rattle.smc_query.specs.Trees.{Word}
-use Rattle.smc_types.specs.Columns.{value_kinds}
+use Rattle.smc_types.specs.Columns.{columns_width, value_kinds}
 use Rattle.smc_types.specs.Records.{row_words, value_words}
 use Rattle.smc_types.specs.Rows.{row_of}
 use Rattle.smc_types.specs.declared.column.Column.{Column}
@@ -67,10 +67,11 @@ abbrev pub PrintsObject : List Column → Bool → List ℕ → List ℕ → Typ
 PrintsObject columns true words text = (line : List ℕ) × PrintsRow (value_kinds columns) (row_of columns words) line × (text ≡ line ++ codes "\n")
 PrintsObject columns false words text = text ≡ null_line
 
--- the object is read in a section of its own, and its row is printed
+-- the object is read whole in a section of its own, and its row is printed
 pub record GetsObject (columns : List Column) (number : Number) (calls : List CallEnd) (text : List ℕ) : Type 0 where
   pub found : Bool
   pub words : List ℕ
+  pub whole : length words ≡ columns_width columns
   pub reads : InSection (ReadsObject number found words) calls
   pub reply : PrintsObject columns found words text
 
