@@ -5,7 +5,7 @@
 //! `Tables.antt` what is read of a file. What the region alone decides stands in `Given.antt`: the numbers of objects, and how
 //! packings end. `laws` has what follows for calls that were made, one command at a time: a command replies what it comes to on
 //! the plain map, and leaves the world of that. So far this is proved of `stat`, `query`, `set`, `remove` and `drop fold`.
-//! Below stand the commands as lists of calls, and the worlds; above, the programs that run scripts. No code that runs is here.
+//! Below stand the commands as lists of calls, and the worlds; nothing stands above so far. No code that runs is here.
 #![tactic(auto)]
 
 pub mod laws;
