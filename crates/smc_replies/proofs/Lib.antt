@@ -7,3 +7,5 @@ pub mod EditFronts
 pub mod QueryFronts
 pub mod FoldFronts
 pub mod PartLaws
+pub mod WorkerFronts
+pub mod GroupFronts

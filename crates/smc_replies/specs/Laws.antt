@@ -3,11 +3,13 @@ use Rattle.std.specs.Prelude.{◌≡◌, ⊤, ℕ, List, ◌∷◌, [], ◌++◌
 use Rattle.std.specs.List.{AllByRecursion}
 use Rattle.smc_trace.specs.Trace.{CallEnd}
 use Rattle.smc_script.specs.Sound.{EachCommand}
-use Rattle.smc_script.specs.Trees.{CommandTree, PartTree, load}
+use Rattle.smc_script.specs.Trees.{CommandTree, NumberedTree, PartTree, load}
 use Rattle.smc_replies.specs.Books.{Books, KnowsSame}
 use Rattle.smc_replies.specs.Loads.{Scene}
 use Rattle.smc_replies.specs.Commands.{RunsCommand}
+use Rattle.smc_replies.specs.Groups.{Progress, RunsGroup}
 use Rattle.smc_replies.specs.Scripts.{RunsPart, RunsParts}
+use Rattle.smc_replies.specs.Workers.{Worked, WorksAs}
 
 -- two commands at the front of one list of calls have made the same calls there, reply the same, and leave the same names and folds
 pub record IsOnePart (new after : Books) (first other rest behind : List CallEnd) (text said : List ℕ) : Type 0 where
@@ -35,3 +37,20 @@ TextIsOne = (scene : Scene) (parts : List PartTree) (old new before after : Book
 abbrev pub OnePartMore : Type 0
 OnePartMore = (scene : Scene) (parts : List PartTree) (part : PartTree) (old middle new : Books) (before calls : List CallEnd) (text said : List ℕ) → RunsParts scene parts old middle before text
     → RunsPart scene part middle new calls said → RunsParts scene (parts ++ part ∷ []) old new (before ++ calls) (text ++ said)
+
+-- the calls of a worker are read off from the front of what its pass has done in its group; what it added, and its replies, follow
+-- from them and from the names that were known at `group`
+abbrev pub WorkerIsOne : Type 0
+WorkerIsOne = (scene : Scene) (known others : Books) (told also : ℕ) (commands : List NumberedTree) (one two : Worked) (rest behind : List CallEnd) → KnowsSame known others
+    → one.before ≡ two.before → WorksAs scene known told commands one → WorksAs scene others also commands two → one.calls ++ rest ≡ two.calls ++ behind → (one ≡ two) × (rest ≡ behind)
+
+-- the same is known, but for keys, and the passes have done the same
+pub record SameSoFar (one other : Progress) : Type 0 where
+  pub known : KnowsSame one.books other.books
+  pub main : one.main ≡ other.main
+  pub workers : one.workers ≡ other.workers
+
+-- the same calls of the same workers and of the main pass have one text, where the same was known and done before
+abbrev pub GroupIsOne : Type 0
+GroupIsOne = (scene : Scene) (workers : List (List NumberedTree)) (old new before after : Progress) (text said : List ℕ) → SameSoFar old before
+    → RunsGroup scene workers old new text → RunsGroup scene workers before after said → new.main ≡ after.main → new.workers ≡ after.workers → text ≡ said

@@ -5,6 +5,8 @@ pub mod Edits
 pub mod Queries
 pub mod Folds
 pub mod Commands
+pub mod Workers
+pub mod Groups
 pub mod Scripts
 pub mod Laws
 pub mod Worked

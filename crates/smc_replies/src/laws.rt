@@ -3,7 +3,7 @@ ghost use Rattle.std.specs.Prelude.{List};
 ghost use Rattle.smc_folds.specs.Kinds.{Kind};
 ghost use Rattle.smc_replies.specs.Books.{books_of};
 ghost use Rattle.smc_replies.specs.Loads.{Scene};
-ghost use Rattle.smc_replies.specs.Laws.{CommandIsOne, OnePartMore, TextIsOne};
+ghost use Rattle.smc_replies.specs.Laws.{CommandIsOne, GroupIsOne, OnePartMore, TextIsOne, WorkerIsOne};
 ghost use Rattle.smc_replies.specs.Scripts.{RunsParts};
 ghost use Rattle.smc_replies.specs.Worked.{its_calls, its_text, one_query, their_calls, their_text, two_stats};
 
@@ -21,6 +21,20 @@ pub fn parts_are_one()
 /// What parts print follows from the calls that they made, and from the names and folds that were known before.
 pub fn the_text_is_one()
     ensures { TextIsOne }
+{
+    a_day_has_one_text();
+}
+
+/// What a worker of a group adds and replies follows from the calls of its pass, and from the names that were known at `group`.
+pub fn a_worker_is_one()
+    ensures { WorkerIsOne }
+{
+    a_day_has_one_text();
+}
+
+/// What a group prints follows from the calls of all passes, and from the names that were known before it.
+pub fn a_group_is_one()
+    ensures { GroupIsOne }
 {
     a_day_has_one_text();
 }

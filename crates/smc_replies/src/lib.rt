@@ -11,6 +11,8 @@
 #![tactic(auto)]
 
 pub mod laws;
+mod added;
 mod limits;
 
+pub use added::Added;
 pub use limits::COMPACT_TURNS;
