@@ -1,5 +1,5 @@
 -- The calls of a delete and of an update are read off from the front of a trace.
-use Rattle.std.proofs.Common.{◌≡◌, ℕ, Option, List, ◌++◌, Result, Ok, sym, subst, ap, ◌∙◌}
+use Rattle.std.proofs.Common.{◌≡◌, ℕ, Option, List, ◌++◌, sym, subst, ap, ◌∙◌}
 use Rattle.smc_shape.specs.Layout.{Layout}
 use Rattle.smc_trace.specs.Named.{leaves}
 use Rattle.smc_trace.specs.Trace.{CallEnd}

@@ -1,6 +1,5 @@
 -- The calls of a command are read off from the front of a trace.
 use Rattle.std.proofs.Common.{◌≡◌, ℕ, Some, None, List, [], ◌∷◌, ◌++◌, length, refl, sym, ap, ◌∙◌, append_assoc}
-use Rattle.smc_words.specs.declared.number.Number.{Number}
 use Rattle.smc_model.specs.declared.event.Event.TheVariants as event
 use Rattle.smc_core.specs.declared.done.Done.TheVariants as done
 use Rattle.smc_core.specs.declared.local.Held.{Held}

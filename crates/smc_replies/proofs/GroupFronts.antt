@@ -1,16 +1,15 @@
 -- What a group does is read off from the traces of all passes.
-use Rattle.std.proofs.Common.{◌≡◌, ℕ, ◌+◌, List, [], ◌∷◌, ◌++◌, length, map, refl, sym, subst, ap, ◌∙◌, append_assoc, append-nil, arith}
+use Rattle.std.proofs.Common.{◌≡◌, ℕ, List, [], ◌∷◌, ◌++◌, length, map, refl, sym, subst, ap, ◌∙◌, append_assoc, append-nil, arith}
 use Rattle.std.specs.List.{AllZip, flat_map}
 use Rattle.std.proofs.lemmas.List.{append_cancel_left, append_cancel_right}
 use Rattle.smc_trace.specs.Named.{notes}
-use Rattle.smc_trace.specs.Trace.{CallEnd, events_in}
+use Rattle.smc_trace.specs.Trace.{CallEnd}
 use Rattle.smc_script.specs.Trees.{NumberedTree}
 use Rattle.smc_replies.specs.Books.{Books, KnowsSame, Named}
 use Rattle.smc_replies.specs.Groups.{Progress, RunsGroup, all_calls, group_text, learns_all}
 use Rattle.smc_replies.specs.Laws.{GroupIsOne, SameSoFar}
 use Rattle.smc_replies.specs.Loads.{Scene}
 use Rattle.smc_replies.specs.Workers.{Worked, WorksAs, with_added}
-use Rattle.smc_replies.specs.declared.added.Added.{Added}
 use Rattle.smc_visits.proofs.FrontLaws.{later-calls}
 use Rattle.smc_replies.proofs.ObjectFronts.{DayHasOneText}
 use Rattle.smc_replies.proofs.WorkerFronts.{worker-one}

@@ -6,7 +6,7 @@ use Rattle.smc_query.specs.Trees.{Word}
 use Rattle.smc_types.specs.Tables.{the_tables}
 use Rattle.smc_script.specs.Tables.{schema_of}
 use Rattle.smc_script.specs.Sound.{EachCommand}
-use Rattle.smc_script.specs.Trees.{CommandTree, PartTree, add, compact, delete, drop_fold, get, load, one, group, query, remove, set, stat, update}
+use Rattle.smc_script.specs.Trees.{PartTree, add, compact, delete, drop_fold, get, load, one, group, query, remove, set, stat, update}
 use Rattle.smc_replies.specs.Books.{Books, KnowsSame, Named, object_of}
 use Rattle.smc_replies.specs.Laws.{CommandIsOne, IsOnePart, OnePartMore, TellsLoad, TextIsOne}
 use Rattle.smc_replies.specs.Objects.{GetsBy, OnObject, RemovesNamed, SetsBy}

@@ -19,7 +19,7 @@ use Rattle.smc_replies.specs.Commands.{RunsCommand, reply_by}
 use Rattle.smc_replies.specs.Laws.{TellsLoad, WorkerIsOne}
 use Rattle.smc_replies.specs.Loads.{Scene}
 use Rattle.smc_replies.specs.Objects.{add_line, words_of}
-use Rattle.smc_replies.specs.Workers.{AddsBesideBy, AddsOrNot, DrivesTable, Worked, WorksAs, WorksCommand, WorksCommands, added_as, books_beside, names_given}
+use Rattle.smc_replies.specs.Workers.{AddsBesideBy, AddsOrNot, DrivesTable, Worked, WorksCommand, WorksCommands, added_as, books_beside, names_given}
 use Rattle.smc_replies.specs.declared.added.Added.{Added}
 use Rattle.smc_replies.specs.declared.limits.TheConstants.{COMPACT_TURNS}
 use Rattle.smc_visits.proofs.FrontLaws.{later-calls}
@@ -51,7 +51,7 @@ added-one (Some schema) keys others place name row given new before after first 
     let read = objects-one schema place.coll keys others words one.object two.object first other rest behind one.adds two.adds same in (
       (read.1, one.reply ∙ ap (λ (o : Option Number). add_line o name) read.0 ∙ sym two.reply),
       one.kept ∙ ap (λ (g : List Added). g ++ added_as one.object schema place name words ∷ []) are
-      ∙ ap (λ (o : Option Number). before ++ added_as o schema place name words ∷ []) read.0 ∙ sym two.kept,
+          ∙ ap (λ (o : Option Number). before ++ added_as o schema place name words ∷ []) read.0 ∙ sym two.kept,
     )
 
 -- ---- commands

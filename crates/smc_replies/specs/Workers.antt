@@ -1,5 +1,5 @@
 -- What the workers of a group do, each beside the others, by the names and keys that were known at `group`.
-use Rattle.std.specs.Prelude.{◌≡◌, ℕ, Bool, true, false, if◌then◌else◌, List, [], ◌∷◌, ◌++◌, codes, Option, Some, None, Ok, slice_index}
+use Rattle.std.specs.Prelude.{◌≡◌, ℕ, if◌then◌else◌, List, [], ◌∷◌, ◌++◌, codes, Option, Some, None, slice_index}
 use Rattle.smc_words.specs.declared.number.Number.{Number}
 use Rattle.smc_trace.specs.Named.{learns, notes}
 use Rattle.smc_trace.specs.Trace.{CallEnd}
@@ -11,7 +11,7 @@ use Rattle.smc_types.specs.declared.row.Value.{Value}
 use Rattle.smc_types.specs.declared.schema.Schema.{Schema}
 use Rattle.smc_query.specs.Trees.{Word}
 use Rattle.smc_script.specs.Tables.{schema_of}
-use Rattle.smc_script.specs.Trees.{CommandTree, NumberedTree, load, add, compact, delete, drop_fold, get, query, remove, set, stat, update}
+use Rattle.smc_script.specs.Trees.{CommandTree, NumberedTree, load, add, compact, drop_fold}
 use Rattle.smc_script.specs.declared.script.Place.{Place}
 use Rattle.smc_load.specs.Loading.{AddsAs, Entries, RefusesRow}
 use Rattle.smc_replies.specs.Books.{Books, Named, with_name}

@@ -6,12 +6,14 @@
 //! `Edits.antt` deletes and updates, and `Folds.antt` folds that are dropped. It also says which commands are run.
 //! `specs/Scripts.antt` puts the parts of a script one behind another, and `laws` has what follows of all of them: a command's
 //! calls are read off from the front of a trace, and one trace has one text. `limits` says how much a command may ask for.
+//! `specs/Workers.antt` and `Groups.antt` say what the workers of a group do, each by its own pass, and what a group replies; `laws`
+//! says that it is one text. The programs above refuse groups so far.
 //! Below stand the calls on objects, the rounds, the loading of rows and the types of scripts; above, the programs that run
 //! scripts. No code that runs is here.
 #![tactic(auto)]
 
-pub mod laws;
 mod added;
+pub mod laws;
 mod limits;
 
 pub use added::Added;
