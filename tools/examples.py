@@ -1,7 +1,7 @@
 #!/usr/bin/env python3
 """Runs the examples with the built program, and compares what they print with what is stored or shown.
 
-    tools/examples.py PROGRAM       the status is 0 where nothing differs; .ci/run ends with it
+    tools/examples.py ./smc         the status is 0 where nothing differs; .ci/run ends with it
 
 Each script and schedule under examples/ has its output beside it, in a file that ends in .out. In README.md and in docs/ an
 indented block that begins with `$` is a session: each `$` line is a command, run in the folder in which the one before it has
