@@ -8,7 +8,7 @@ use Rattle.smc_replies.specs.Books.{books_of}
 use Rattle.smc_replies.specs.Loads.{Scene}
 use Rattle.smc_desk.specs.declared.alone.RunEnd.{RunEnd}
 use Rattle.smc_desk.specs.declared.alone.RunEnd.TheVariants.{Done, WriteFault, NoMemory}
-use Rattle.smc_desk.specs.Runs.{Replied, RepliesAll, RepliesFront}
+use Rattle.smc_desk.specs.Runs.{Replied, RepliesAll, RepliesFront, Writes}
 
 -- the command drops a fold
 abbrev pub DropsFold : CommandTree → Type 0
@@ -19,6 +19,11 @@ DropsFold command = ⊥
 abbrev pub Drops : PartTree → Type 0
 Drops (one numbered) = DropsFold numbered.command
 Drops (group workers) = ⊥
+
+-- what is written of a reply, as its command ends: nothing without memory
+abbrev pub WritesDrop : RunEnd → Option (List ℕ) → Option (List ℕ) → List ℕ → Type 0
+WritesDrop NoMemory before after text = Keeps before after
+WritesDrop end before after text = Writes end before after text
 
 -- how such a part ends, before which these folds are there and behind which those are left
 abbrev pub DropEnds : Scene → RunEnd → PartTree → (kinds left : List Kind) → Option (List ℕ) → Option (List ℕ) → Type 0
