@@ -5,12 +5,19 @@
 //! and counts; said is how each came out. `held`: a section holds an object while a drive has five turns; said is how the
 //! drive ended, what the section read behind it, and how a drive ended once the section had left. `two N`: two threads add N
 //! objects each, the first learns what the second has seen, and counts; said is how many each added, and how many there were.
+//! `four N`: three threads make N calls each, on each other's objects too, while a fourth drives rounds; then the region is
+//! closed, and said is whether the answers are those of one plain map, in an order in which no call comes behind one that
+//! began when it had ended; and that a word, or a removal, which is falsified is seen.
 //!
-//! `rooms` opens the regions, and `one`, `held` and `two` do what their lines say. Nothing stands on it.
+//! `rooms` opens the regions, `one`, `held`, `two` and `four` do what their lines say, `hand` makes the calls of a thread, and
+//! `replay` looks for the order. Nothing stands on it.
 #![tactic(auto)]
 
+mod four;
+mod hand;
 mod held;
 mod one;
+mod replay;
 mod rooms;
 mod two;
 
@@ -33,6 +40,11 @@ fn main(rt: HostRuntime) -> anyhow::Result<()> {
                 let many = many.parse::<u32>()?;
                 let (one, other, all) = two::add_beside(&rt, alloc, many)?;
                 println!(rt; "{one} {other} {all}")?;
+            }
+            Some(("four", many)) => {
+                let many = many.parse::<u32>()?;
+                let fit = four::work_beside(&rt, alloc, many)?;
+                println!(rt; "{fit}")?;
             }
             Some(_) => bail!("a line of no form"),
         }

@@ -1,0 +1,11 @@
+use Rattle.std.proofs.Common.{◌≡◌}
+use Rattle.smc_region.specs.Callers.{IsPassOf}
+use Rattle.smc_does.specs.Does.{OwnsNone}
+use Rattle.check_threads.proofs.four.pack.Given as goal
+
+abbrev pub invariant-loop : goal.invariant-loop
+invariant-loop l = record {
+  here : IsPassOf l.region l.pass;
+  number : l.pass.number ≡ l.fn.pass.number;
+  free : OwnsNone l.pass;
+}
