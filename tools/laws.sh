@@ -16,8 +16,8 @@ cd "$top"
 
 sums() {
   {
-    # these four write no proof
-    ls tools/*.py tools/*.txt | grep -v -e /examples.py -e /hostile.py -e /random_queries.py -e /sizes.py
+    # these write no proof
+    ls tools/*.py tools/*.txt | grep -v -e /examples.py -e /hostile.py -e /theorems.py -e /random_queries.py -e /sizes.py
     ls crates/smc_inv_slot/proofs/Lib.antt crates/smc_inv_move/proofs/Lib.antt
     grep -rl --include='*.antt' 'Written by tools/' crates/*/proofs
   } | LC_ALL=C sort | xargs sha256sum
