@@ -30,11 +30,11 @@ kept-still plan rows row is =
 -- to choose twice is to choose once
 filter-twice : {A : Type 0} (p : A → Bool) (xs : List A) → filter p (filter p xs) ≡ filter p xs
 filter-twice p [] = refl
-filter-twice {A} p (x ∷ xs) = go (p x) refl
+filter-twice {A} p (x ∷ xs) = go (p x) refl (filter-twice p xs)
   where
-    go : (b : Bool) → p x ≡ b → filter p (cond b (x ∷ filter p xs) (filter p xs)) ≡ cond b (x ∷ filter p xs) (filter p xs)
-    go true is = ap (λ (t : Bool). cond t (x ∷ filter p (filter p xs)) (filter p (filter p xs))) is ∙ ap (λ (rest : List A). x ∷ rest) (filter-twice p xs)
-    go false is = filter-twice p xs
+    go : (b : Bool) → p x ≡ b → filter p (filter p xs) ≡ filter p xs → filter p (cond b (x ∷ filter p xs) (filter p xs)) ≡ cond b (x ∷ filter p xs) (filter p xs)
+    go true is rest = ap (λ (t : Bool). cond t (x ∷ filter p (filter p xs)) (filter p (filter p xs))) is ∙ ap (λ (k : List A). x ∷ k) rest
+    go false is rest = rest
 
 -- an answer over what is kept is the answer over all
 answer-kept : (plan : Planned) (kinds : List Kind) (rows : List (List ℕ)) → answer_of plan kinds (kept_rows plan rows) ≡ answer_of plan kinds rows

@@ -61,6 +61,7 @@ impl<'a> Gathering<'a> {
     // The rows that the plan keeps, where a query sees so many.
     fn into_rows(self) -> Result<Rows, NoMemory>
         ensures rows { IfOk result (λ rows. rows ≡ self.entry.kept) }
+        ensures width { IfOk result (λ rows. rows.width ≡ leaves_words self.entry.plan.leaves) }
         ensures few { IfOk result (λ rows. length rows.rows ≤ ROWS_MAX) }
     {
         let Gathering { plan: _, kept } = self;
