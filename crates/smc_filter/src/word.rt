@@ -1,0 +1,151 @@
+//! The number or the day in one word of a row, compared with a value that is the same in every row.
+ghost use Rattle.std.specs.Prelude.{◌≡◌, ◌≤◌, ◌<◌, ◌≤ℤ◌, ◌^◌, ℕ, ℤ, List, IfSome, Some, length, slice_get, slice_index, unsigned_abs};
+ghost use Rattle.std.specs.Ordering.{int_cmp};
+ghost use Rattle.smc_types.specs.Numbers.{moved_back, nearest};
+ghost use Rattle.smc_types.specs.Rows as rows;
+ghost use Rattle.smc_plan.specs.Conditions.{comparison};
+ghost use Rattle.smc_plan.specs.Leaves.{leaves_words};
+ghost use Rattle.smc_plan.specs.Typed as typed;
+ghost use Rattle.smc_plan.specs.Typed.{typed_tree};
+ghost use Rattle.smc_plan.specs.declared.kind.TheConstants.{HUNDREDTHS};
+ghost use Rattle.smc_meaning.specs.Comparing.{compare};
+ghost use Rattle.smc_meaning.specs.Kept.{meets};
+ghost use Rattle.smc_meaning.specs.Values.{cell_of, number};
+ghost use Rattle.smc_filter.specs.Constants.{cell_of_constant};
+ghost use Rattle.smc_filter.specs.Words.{FitsWord, meets_word, unit_in};
+
+use crate::Constant;
+use crate::constant::constant_of;
+use smc_plan::{HUNDREDTHS, Leaf, Typed};
+use smc_query::Op;
+use smc_types::{AMOUNT_MAX, COUNT_MAX, DAY_MAX, DAY_MIN, FieldType, OFFSET, RATE_MAX};
+
+/// Compares the number or the day in the word at place `at` of a row, which a column of type `kind` has, with so many units or
+/// days.
+#[derive(Clone, Copy, Debug)]
+pub struct Word {
+    pub op: Op,
+    pub at: usize,
+    pub kind: FieldType,
+    pub units: i64,
+}
+
+// The nearest to a moved number from the least to the greatest, of which neither is large.
+#[inline(always)]
+fn moved_within(word: u64, least: i64, greatest: i64) -> i64
+    requires order { least ≤ℤ greatest }
+    requires low { unsigned_abs least < 2 ^ 61 }
+    requires high { unsigned_abs greatest < 2 ^ 61 }
+    ensures { result ≡ nearest least greatest (moved_back word) }
+{
+    let number = word.min(i64::MAX as u64) as i64 - OFFSET as i64;
+    number.clamp(least, greatest)
+}
+
+// The units in the word of a column of numbers or days.
+#[inline(always)]
+fn unit_in(kind: FieldType, word: u64) -> i64
+    ensures { result ≡ unit_in kind word }
+{
+    match kind {
+        FieldType::Count => word.min(COUNT_MAX as u64) as i64,
+        FieldType::Amount => moved_within(word, -(AMOUNT_MAX as i64), AMOUNT_MAX as i64),
+        FieldType::Rate => moved_within(word, 0, RATE_MAX as i64),
+        FieldType::Day => moved_within(word, i64::from(DAY_MIN), i64::from(DAY_MAX)),
+        FieldType::Text(_) => 0,
+        FieldType::RefTo(_) => 0,
+    }
+}
+
+/// Whether the number or the day in the word of a row is as the operator says.
+#[inline]
+pub(crate) fn meets_word(word: &Word, row: &[u64]) -> bool
+    requires { word.now.at < length row.now }
+    ensures { result ≡ meets_word word.now row.now }
+{
+    let found = unit_in(word.kind, row[word.at]);
+    match word.op {
+        Op::Equal => found == word.units,
+        Op::Unequal => found != word.units,
+        Op::Less => found < word.units,
+        Op::LessEqual => found <= word.units,
+        Op::Greater => found > word.units,
+        Op::GreaterEqual => found >= word.units,
+    }
+}
+
+// Units, brought to the scale of a column that has no fewer decimals.
+fn brought(units: i64, scale: u32, larger: u32) -> Option<i64>
+    requires few { larger ≤ HUNDREDTHS }
+    ensures { IfSome result (λ made. (other : ℤ) → compare (number other larger) (number units scale) ≡ int_cmp other made) }
+{
+    if scale <= larger {
+        units.checked_mul(10u64.pow(larger - scale) as i64)
+    } else {
+        None
+    }
+}
+
+// The units with which those in the word of a column compare as its value does with a constant.
+fn units_against(kind: FieldType, constant: Constant) -> Option<i64>
+    ensures { IfSome result (λ units. (words : List ℕ)
+        → compare (cell_of kind (rows.value_of kind words)) (cell_of_constant constant) ≡ int_cmp (unit_in kind (slice_index words 0)) units) }
+{
+    match (kind, constant) {
+        (FieldType::Count, Constant::Number { units, scale }) => brought(units, scale, 0),
+        (FieldType::Amount, Constant::Number { units, scale }) => brought(units, scale, HUNDREDTHS),
+        (FieldType::Rate, Constant::Number { units, scale }) => brought(units, scale, HUNDREDTHS),
+        (FieldType::Day, Constant::Day(days)) => Some(days),
+        _ => None,
+    }
+}
+
+// How many words these leaves take, where a number counts them.
+fn words_of(leaves: &[Leaf]) -> Option<usize>
+    ensures { IfSome result (λ words. words ≡ leaves_words leaves.now) }
+{
+    let mut words = 0usize;
+    for leaf in leaves {
+        words = words.checked_add(leaf.kind.width() as usize)?;
+    }
+    Some(words)
+}
+
+// The comparison of the leaf at a place with a constant, where the leaf has one word.
+fn word_of_leaf(
+    leaves: &[Leaf],
+    op: Op,
+    place: usize,
+    leaf: &Leaf,
+    constant: Constant,
+) -> Option<Word>
+    requires found { slice_get leaves.now place ≡ Some leaf.now }
+    ensures same { IfSome result (λ word. (words : List ℕ) (right : TypedTree) → value_of leaves.now right words ≡ cell_of_constant constant
+        → meets leaves.now (comparison op (typed.leaf place) right) words ≡ meets_word word words) }
+    ensures fits { IfSome result (FitsWord leaves.now) }
+{
+    let units = units_against(leaf.kind, constant)?;
+    let (before, _) = leaves.split_at(place);
+    let at = words_of(before)?;
+    Some(Word {
+        op,
+        at,
+        kind: leaf.kind,
+        units,
+    })
+}
+
+/// The comparison of two expressions, where the first is a leaf of one word and the second a constant.
+pub(crate) fn word_of(leaves: &[Leaf], op: Op, left: &Typed, right: &Typed) -> Option<Word>
+    ensures same { IfSome result (λ word. (words : List ℕ)
+        → meets leaves.now (comparison op (typed_tree left.now) (typed_tree right.now)) words ≡ meets_word word words) }
+    ensures fits { IfSome result (FitsWord leaves.now) }
+{
+    match left {
+        Typed::Leaf(place) => {
+            let leaf = leaves.get(*place)?;
+            word_of_leaf(leaves, op, *place, leaf, constant_of(right)?)
+        }
+        _ => None,
+    }
+}
