@@ -1,8 +1,8 @@
 //! Expressions that have one value in every row.
-ghost use Rattle.std.specs.Prelude.{◌≡◌, ℕ, List, IfSome};
+ghost use Rattle.std.specs.Prelude.{◌≡◌, ℕ, pos, List, IfSome};
 ghost use Rattle.smc_plan.specs.Typed.{typed_tree};
 ghost use Rattle.smc_plan.specs.declared.leaf.Leaf.{Leaf};
-ghost use Rattle.smc_meaning.specs.Values.{value_of};
+ghost use Rattle.smc_meaning.specs.Values.{less, negative, number, plus, value_of};
 ghost use Rattle.smc_filter.specs.Constants.{cell_of_constant};
 
 use smc_plan::Typed;
@@ -16,8 +16,24 @@ pub enum Constant {
     Day(i64),
 }
 
+// A number, where it fits 64 bits.
+fn number(units: u64, scale: u32) -> Option<Constant>
+    ensures { IfSome result (λ made. cell_of_constant made ≡ number (pos units) scale) }
+{
+    if units <= i64::MAX as u64 {
+        Some(Constant::Number {
+            units: units as i64,
+            scale,
+        })
+    } else {
+        None
+    }
+}
+
 // A number taken from nothing.
-fn negative(of: Constant) -> Option<Constant> {
+fn negative(of: Constant) -> Option<Constant>
+    ensures { IfSome result (λ made. cell_of_constant made ≡ negative (cell_of_constant of)) }
+{
     match of {
         Constant::Number { units, scale } => Some(Constant::Number {
             units: units.checked_neg()?,
@@ -28,7 +44,9 @@ fn negative(of: Constant) -> Option<Constant> {
 }
 
 // A day, moved on by so many days.
-fn later(from: Constant, days: Constant) -> Option<Constant> {
+fn later(from: Constant, days: Constant) -> Option<Constant>
+    ensures { IfSome result (λ made. cell_of_constant made ≡ plus (cell_of_constant from) (cell_of_constant days)) }
+{
     match (from, days) {
         (Constant::Day(day), Constant::Number { units, .. }) => {
             Some(Constant::Day(day.checked_add(units)?))
@@ -38,7 +56,9 @@ fn later(from: Constant, days: Constant) -> Option<Constant> {
 }
 
 // A day, moved back by so many days.
-fn earlier(from: Constant, days: Constant) -> Option<Constant> {
+fn earlier(from: Constant, days: Constant) -> Option<Constant>
+    ensures { IfSome result (λ made. cell_of_constant made ≡ less (cell_of_constant from) (cell_of_constant days)) }
+{
     match (from, days) {
         (Constant::Day(day), Constant::Number { units, .. }) => {
             Some(Constant::Day(day.checked_sub(units)?))
@@ -52,10 +72,7 @@ pub(crate) fn constant_of(expr: &Typed) -> Option<Constant>
     ensures { IfSome result (λ constant. (leaves : List Leaf) (words : List ℕ) → value_of leaves (typed_tree expr.now) words ≡ cell_of_constant constant) }
 {
     match expr {
-        Typed::Number { units, scale } => Some(Constant::Number {
-            units: i64::try_from(*units).ok()?,
-            scale: *scale,
-        }),
+        Typed::Number { units, scale } => number(*units, *scale),
         Typed::Day(days) => Some(Constant::Day(i64::from(*days))),
         Typed::Minus(of) => negative(constant_of(of)?),
         Typed::Add(left, right) => later(constant_of(left)?, constant_of(right)?),

@@ -1,18 +1,19 @@
 //! The number or the day in one word of a row, compared with a value that is the same in every row.
 ghost use Rattle.std.specs.Prelude.{◌≡◌, ◌≤◌, ◌<◌, ◌≤ℤ◌, ◌^◌, ℕ, ℤ, List, IfSome, Some, length, slice_get, slice_index, unsigned_abs};
 ghost use Rattle.std.specs.Ordering.{int_cmp};
+ghost use Rattle.smc_types.specs.Columns.{width_of};
 ghost use Rattle.smc_types.specs.Numbers.{moved_back, nearest};
 ghost use Rattle.smc_types.specs.Rows as rows;
 ghost use Rattle.smc_plan.specs.Conditions.{comparison};
 ghost use Rattle.smc_plan.specs.Leaves.{leaves_words};
 ghost use Rattle.smc_plan.specs.Typed as typed;
-ghost use Rattle.smc_plan.specs.Typed.{typed_tree};
+ghost use Rattle.smc_plan.specs.Typed.{TypedTree, typed_tree};
 ghost use Rattle.smc_plan.specs.declared.kind.TheConstants.{HUNDREDTHS};
 ghost use Rattle.smc_meaning.specs.Comparing.{compare};
 ghost use Rattle.smc_meaning.specs.Kept.{meets};
-ghost use Rattle.smc_meaning.specs.Values.{cell_of, number};
+ghost use Rattle.smc_meaning.specs.Values.{cell_of, day, number, value_of};
 ghost use Rattle.smc_filter.specs.Constants.{cell_of_constant};
-ghost use Rattle.smc_filter.specs.Words.{FitsWord, meets_word, unit_in};
+ghost use Rattle.smc_filter.specs.Words.{ComparesAs, FitsWord, meets_word, unit_in};
 
 use crate::Constant;
 use crate::constant::constant_of;
@@ -86,17 +87,47 @@ fn brought(units: i64, scale: u32, larger: u32) -> Option<i64>
     }
 }
 
+// How many decimals the numbers in the word of a column have, where it has numbers.
+fn decimals_of(kind: FieldType) -> Option<u32>
+    ensures few { IfSome result (λ scale. scale ≤ HUNDREDTHS) }
+    ensures width { IfSome result (λ scale. width_of kind ≡ 1) }
+    ensures value { IfSome result (λ scale. (words : List ℕ) → cell_of kind (rows.value_of kind words) ≡ number (unit_in kind (slice_index words 0)) scale) }
+{
+    match kind {
+        FieldType::Count => Some(0),
+        FieldType::Amount => Some(HUNDREDTHS),
+        FieldType::Rate => Some(HUNDREDTHS),
+        FieldType::Day | FieldType::Text(_) | FieldType::RefTo(_) => None,
+    }
+}
+
+// The units with which those in the word of a column compare as its number does with another.
+fn number_against(kind: FieldType, units: i64, scale: u32) -> Option<i64>
+    ensures width { IfSome result (λ made. width_of kind ≡ 1) }
+    ensures same { IfSome result (λ made. ComparesAs kind (number units scale) made) }
+{
+    brought(units, scale, decimals_of(kind)?)
+}
+
+// The days with which those in the word of a column compare as its day does with another.
+fn day_against(kind: FieldType, days: i64) -> Option<i64>
+    ensures width { IfSome result (λ made. width_of kind ≡ 1) }
+    ensures same { IfSome result (λ made. ComparesAs kind (day days) made) }
+{
+    match kind {
+        FieldType::Day => Some(days),
+        _ => None,
+    }
+}
+
 // The units with which those in the word of a column compare as its value does with a constant.
 fn units_against(kind: FieldType, constant: Constant) -> Option<i64>
-    ensures { IfSome result (λ units. (words : List ℕ)
-        → compare (cell_of kind (rows.value_of kind words)) (cell_of_constant constant) ≡ int_cmp (unit_in kind (slice_index words 0)) units) }
+    ensures width { IfSome result (λ made. width_of kind ≡ 1) }
+    ensures same { IfSome result (λ made. ComparesAs kind (cell_of_constant constant) made) }
 {
-    match (kind, constant) {
-        (FieldType::Count, Constant::Number { units, scale }) => brought(units, scale, 0),
-        (FieldType::Amount, Constant::Number { units, scale }) => brought(units, scale, HUNDREDTHS),
-        (FieldType::Rate, Constant::Number { units, scale }) => brought(units, scale, HUNDREDTHS),
-        (FieldType::Day, Constant::Day(days)) => Some(days),
-        _ => None,
+    match constant {
+        Constant::Number { units, scale } => number_against(kind, units, scale),
+        Constant::Day(days) => day_against(kind, days),
     }
 }
 
