@@ -14,6 +14,6 @@ mod test;
 mod word;
 
 pub use constant::Constant;
-// pub use filter::Filter;
+pub use filter::Filter;
 pub use test::{Test, passes, test_of};
 pub use word::Word;
