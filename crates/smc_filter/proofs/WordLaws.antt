@@ -1,5 +1,6 @@
 -- Leaves of one word, and values that are compared with them.
-use Rattle.std.proofs.Common.{◌≡◌, ℕ, zero, suc, ◌+◌, ◌-◌, ◌^◌, ◌≤◌, ◌<◌, max, ℤ, pos, ◌*ℤ◌, List, [], ◌∷◌, take, drop, get_or, Option, Some, slice_get, slice_index, refl, sym, ap, ◌∙◌, arith}
+use Rattle.std.proofs.Common.{◌≡◌, ℕ, zero, suc, ◌+◌, ◌-◌, ◌^◌, ◌≤◌, ◌<◌, max, ℤ, pos, ◌*ℤ◌, List, [], ◌∷◌, take, drop, get_or, Option, None, Some, IfSome, SomeIff, FitsSigned, slice_get, slice_index, refl, sym, ap, ◌∙◌, arith}
+use Rattle.std.specs.Int.{w64}
 use Rattle.std.specs.Ordering.{int_cmp}
 use Rattle.std.proofs.lemmas.Int.{ints}
 use Rattle.std.proofs.lemmas.List.Sums.{sum_by-append}
@@ -29,6 +30,15 @@ compare-brought units other scale larger within =
     ap (λ n. int_cmp (other *ℤ pos (10 ^ (n - larger))) (units *ℤ pos (10 ^ (n - scale)))) most
     ∙ ap (λ n. int_cmp (other *ℤ pos (10 ^ n)) (units *ℤ pos (10 ^ (larger - scale)))) none
     ∙ ap (λ x. int_cmp x (units *ℤ pos (10 ^ (larger - scale)))) same
+
+-- the same of units whose product may be too large, where it is not
+pub compares-brought : (units seen factor : ℤ) (scale larger : ℕ) (made : Option ℤ) → scale ≤ larger → seen ≡ units → factor ≡ pos (10 ^ (larger - scale))
+    → SomeIff made (FitsSigned w64 (seen *ℤ factor)) (seen *ℤ factor)
+    → IfSome made (λ x. (other : ℤ) → compare (number other larger) (number units scale) ≡ int_cmp other x)
+compares-brought units seen factor scale larger None within seen_is factor_is made_is = tt
+compares-brought units seen factor scale larger (Some x) within seen_is factor_is made_is =
+    λ other. compare-brought units other scale larger within
+    ∙ ap (int_cmp other) (sym (made_is.1 ∙ ap (λ u. u *ℤ factor) seen_is ∙ ap (λ f. units *ℤ f) factor_is))
 
 -- a column compares with a number as with its units at the scale of the column
 pub compares-number : (kind : FieldType) (larger : ℕ) (constant : Cell) (made : ℤ)
@@ -60,14 +70,15 @@ first-behind : (at : ℕ) (words : List ℕ) → get_or (take 1 (drop at words))
 first-behind at words = get_or-take 1 (drop at words) 0 0 (omega arith) ∙ get_or-drop at words 0 0 ∙ ap (λ n. get_or words n 0) (omega arith)
 
 -- a leaf of one word compares as its word
-pub compare-leaf : (leaves : List Leaf) (op : Op) (place at : ℕ) (leaf : Leaf) (constant : Cell) (units : ℤ) (right : TypedTree) (words : List ℕ)
-    → slice_get leaves place ≡ Some leaf → width_of leaf.kind ≡ 1 → at ≡ leaves_words (take place leaves) → ComparesAs leaf.kind constant units → value_of leaves right words ≡ constant
-    → holds op (compare (value_of leaves (typed.leaf place) words) (value_of leaves right words)) ≡ holds op (int_cmp (unit_in leaf.kind (get_or words at 0)) units)
-compare-leaf leaves op place at leaf constant units right words found wide at_is compares right_is =
+pub compare-leaf : (leaves : List Leaf) (op : Op) (place at : ℕ) (leaf : Leaf) (constant : Cell) (units seen : ℤ) (right : TypedTree) (words : List ℕ)
+    → slice_get leaves place ≡ Some leaf → width_of leaf.kind ≡ 1 → at ≡ leaves_words (take place leaves) → ComparesAs leaf.kind constant units → seen ≡ units → value_of leaves right words ≡ constant
+    → holds op (compare (value_of leaves (typed.leaf place) words) (value_of leaves right words)) ≡ holds op (int_cmp (unit_in leaf.kind (get_or words at 0)) seen)
+compare-leaf leaves op place at leaf constant units seen right words found wide at_is compares seen_is right_is =
     let start : ℕ = leaves_words (take place leaves) in
     let front : List ℕ = take 1 (drop start words) in
     ap (holds op)
     (ap (λ cell. compare cell (value_of leaves right words)) (value-leaf leaves place leaf words found wide)
     ∙ ap (compare (cell_of leaf.kind (rows.value_of leaf.kind front))) right_is
     ∙ compares front
-    ∙ ap (λ word. int_cmp (unit_in leaf.kind word) units) (first-behind start words ∙ ap (λ n. get_or words n 0) (sym at_is)))
+    ∙ ap (λ word. int_cmp (unit_in leaf.kind word) units) (first-behind start words ∙ ap (λ n. get_or words n 0) (sym at_is))
+    ∙ ap (int_cmp (unit_in leaf.kind (get_or words at 0))) (sym seen_is))

@@ -36,13 +36,13 @@ pub struct Filter<'a> {
 
 impl<'a> Model for Filter<'a> {
     ghost use Rattle.std.specs.Coded.{codes};
-    ghost use Rattle.smc_plan.specs.contracts.condition.TypedCond as condition;
-    ghost use Rattle.smc_plan.specs.contracts.typed.Typed as typed;
+    ghost use Rattle.smc_plan.specs.contracts.condition.TypedCond as conditions;
+    ghost use Rattle.smc_plan.specs.contracts.typed.Typed as expressions;
     ghost use Rattle.smc_filter.specs.Filters.{Filtered, IsReady};
 
     ghost Value = { Filtered };
 
-    ghost coded = { Prim.hlevel (codes, condition.the_row.coded, typed.the_row.coded) };
+    ghost coded = { Prim.hlevel (codes, conditions.the_row.coded, expressions.the_row.coded) };
 
     ghost view = { λ made. record { leaves = made.leaves.now; condition = made.condition.now } };
 

@@ -1,5 +1,5 @@
 //! The number or the day in one word of a row, compared with a value that is the same in every row.
-ghost use Rattle.std.specs.Prelude.{◌≡◌, ◌≤◌, ◌<◌, ◌≤ℤ◌, ◌^◌, ℕ, ℤ, List, IfSome, Some, length, slice_get, slice_index, unsigned_abs};
+ghost use Rattle.std.specs.Prelude.{◌≡◌, ◌≤◌, ◌<◌, ◌≤ℤ◌, ◌-◌, ◌^◌, pos, ℕ, ℤ, List, IfSome, Some, length, slice_get, slice_index, unsigned_abs};
 ghost use Rattle.std.specs.Ordering.{int_cmp};
 ghost use Rattle.smc_types.specs.Columns.{width_of};
 ghost use Rattle.smc_types.specs.Numbers.{moved_back, nearest};
@@ -75,13 +75,21 @@ pub(crate) fn meets_word(word: &Word, row: &[u64]) -> bool
     }
 }
 
+// Ten to a power.
+fn ten_to(power: u32) -> i64
+    requires { power ≤ HUNDREDTHS }
+    ensures { result ≡ pos (10 ^ power) }
+{
+    10u64.pow(power) as i64
+}
+
 // Units, brought to the scale of a column that has no fewer decimals.
 fn brought(units: i64, scale: u32, larger: u32) -> Option<i64>
     requires few { larger ≤ HUNDREDTHS }
     ensures { IfSome result (λ made. (other : ℤ) → compare (number other larger) (number units scale) ≡ int_cmp other made) }
 {
     if scale <= larger {
-        units.checked_mul(10u64.pow(larger - scale) as i64)
+        units.checked_mul(ten_to(larger - scale))
     } else {
         None
     }
