@@ -1,0 +1,7 @@
+use Rattle.std.proofs.Common.{◌≡◌, to_z, of_z, ◌∙◌, arith}
+use Rattle.std.specs.Int.{w64}
+use Rattle.std.proofs.lemmas.Int.{ints, clamps}
+use Rattle.smc_filter.proofs.word.moved_within.Goals as goal
+
+pub returns : goal.returns
+returns c = omega (arith, ints, clamps, c.clamp.ensures.value, c.min.ensures, c.requires.low, c.requires.high, c.requires.order)
