@@ -1,5 +1,5 @@
 -- Leaves of one word, and values that are compared with them.
-use Rattle.std.proofs.Common.{◌≡◌, ℕ, zero, suc, ◌+◌, ◌-◌, ◌^◌, ◌≤◌, ◌<◌, max, ℤ, pos, ◌*ℤ◌, List, [], ◌∷◌, take, drop, get_or, Option, None, Some, IfSome, SomeIff, FitsSigned, slice_get, slice_index, refl, sym, ap, ◌∙◌, arith}
+use Rattle.std.proofs.Common.{◌≡◌, ℕ, zero, suc, ◌+◌, ◌-◌, ◌^◌, ◌≤◌, ◌<◌, max, ℤ, pos, ◌*ℤ◌, List, [], ◌∷◌, take, drop, get_or, Option, None, Some, IfSome, SomeIff, FitsSigned, slice_get, slice_index, sym, ap, ◌∙◌, arith}
 use Rattle.std.specs.Int.{w64}
 use Rattle.std.specs.Ordering.{int_cmp}
 use Rattle.std.proofs.lemmas.Int.{ints}

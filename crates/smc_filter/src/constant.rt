@@ -9,7 +9,7 @@ use smc_plan::Typed;
 
 /// A value that is the same in every row.
 #[derive(Clone, Copy, Debug)]
-pub enum Constant {
+pub(crate) enum Constant {
     /// So many units, of which ten to the power of `scale` make one.
     Number { units: i64, scale: u32 },
     /// Days from 1970-01-01.

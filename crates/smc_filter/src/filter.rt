@@ -72,6 +72,7 @@ impl<'a> Filter<'a> {
     }
 
     /// Whether a row is kept, given by the words of all leaves. This takes no memory.
+    #[inline]
     pub fn keeps(&self, row: &[u64]) -> bool
         requires { length row.now ≡ leaves_words self.now.leaves }
         ensures { result ≡ keeps self.now row.now }

@@ -13,7 +13,6 @@ mod filter;
 mod test;
 mod word;
 
-pub use constant::Constant;
 pub use filter::Filter;
 pub use test::{Test, passes, test_of};
 pub use word::Word;

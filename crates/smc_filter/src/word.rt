@@ -15,8 +15,7 @@ ghost use Rattle.smc_meaning.specs.Values.{cell_of, day, number, value_of};
 ghost use Rattle.smc_filter.specs.Constants.{cell_of_constant};
 ghost use Rattle.smc_filter.specs.Words.{ComparesAs, FitsWord, meets_word, unit_in};
 
-use crate::Constant;
-use crate::constant::constant_of;
+use crate::constant::{Constant, constant_of};
 use smc_plan::{HUNDREDTHS, Leaf, Typed};
 use smc_query::Op;
 use smc_types::{AMOUNT_MAX, COUNT_MAX, DAY_MAX, DAY_MIN, FieldType, OFFSET, RATE_MAX};

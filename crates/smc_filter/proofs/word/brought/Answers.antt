@@ -1,7 +1,5 @@
-use Rattle.std.proofs.Common.{◌≡◌, ◌-◌, ◌^◌, ℤ, pos, to_z, of_z, ◌∙◌, rules, arith}
+use Rattle.std.proofs.Common.{◌≡◌, ℤ, to_z, of_z, ◌∙◌, rules}
 use Rattle.std.specs.Int.{w64}
-use Rattle.std.proofs.lemmas.Int.{ints}
-use Rattle.std.proofs.Math.Nat.{pow-le-pow_right}
 use Rattle.smc_filter.proofs.WordLaws.{compares-brought}
 use Rattle.smc_filter.proofs.word.brought.Goals as goal
 

@@ -1,5 +1,4 @@
-use Rattle.std.proofs.Common.{◌≡◌, to_z, of_z, ◌∙◌, arith}
-use Rattle.std.specs.Int.{w64}
+use Rattle.std.proofs.Common.{arith}
 use Rattle.std.proofs.lemmas.Int.{ints, clamps}
 use Rattle.smc_filter.proofs.word.moved_within.Goals as goal
 

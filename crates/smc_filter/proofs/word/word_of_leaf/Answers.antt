@@ -1,10 +1,7 @@
-use Rattle.std.proofs.Common.{◌≡◌, ◌≤◌, take, length, ℤ, to_z, of_z, ap, sym, ◌∙◌, rules, arith}
+use Rattle.std.proofs.Common.{◌≡◌, take, ℤ, to_z, of_z, rules, arith}
 use Rattle.std.specs.Int.{w64}
-use Rattle.std.specs.Ordering.{int_cmp}
 use Rattle.smc_plan.specs.Leaves.{leaves_words}
-use Rattle.smc_meaning.specs.Kept.{holds}
 use Rattle.smc_filter.specs.Constants.{cell_of_constant}
-use Rattle.smc_filter.specs.Words.{unit_in}
 use Rattle.smc_filter.proofs.WordLaws.{compare-leaf, leaf-within}
 use Rattle.smc_filter.proofs.word.word_of_leaf.Goals as goal
 
