@@ -15,7 +15,8 @@ ghost use Rattle.smc_exec.specs.Queries.{KeepsRows};
 
 use crate::buffer::row_buffer;
 use crate::laws::queries_can_run;
-use smc_meaning::{ROWS_MAX, Rows, kept};
+use smc_filter::Filter;
+use smc_meaning::{ROWS_MAX, Rows};
 use smc_plan::Plan;
 use smc_region::{Pass, Region};
 use smc_visits::{TakeRow, scan_rows};
@@ -27,6 +28,7 @@ use std::marker::Model;
 #[derive(Drop)]
 struct Gathering<'a> {
     plan: &'a Plan,
+    filter: Filter<'a>,
     kept: Rows,
 }
 
@@ -42,20 +44,21 @@ impl<'a> Model for Gathering<'a> {
 
     ghost view = { λ gathering. record { plan = gathering.plan.now; kept = gathering.kept } };
 
-    ghost invariant = { λ gathering. CanGather gathering.plan.now gathering.kept };
+    ghost invariant = { λ gathering. CanGather gathering.plan.now gathering.filter gathering.kept };
 }
 
 impl<'a> Gathering<'a> {
     // No rows so far.
-    fn new(alloc: Global, plan: &'a Plan) -> Gathering<'a>
+    fn new(alloc: Global, plan: &'a Plan) -> Result<Gathering<'a>, NoMemory>
         requires typed { IfSome (filter_condition plan.now.filter) (IsTyped plan.now.leaves) }
-        ensures plan { result.plan ≡ plan.now }
-        ensures none { HasGathered result [] }
+        ensures plan { IfOk result (λ gathering. gathering.plan ≡ plan.now) }
+        ensures none { IfOk result (λ gathering. HasGathered gathering []) }
     {
-        Gathering {
+        Ok(Gathering {
             plan,
+            filter: Filter::of(alloc, plan.leaves(), &plan.filter)?,
             kept: Rows::new(alloc, plan.words() as usize),
-        }
+        })
     }
 
     // The rows that the plan keeps, where a query sees so many.
@@ -64,7 +67,11 @@ impl<'a> Gathering<'a> {
         ensures width { IfOk result (λ rows. rows.width ≡ leaves_words self.entry.plan.leaves) }
         ensures few { IfOk result (λ rows. length rows.rows ≤ ROWS_MAX) }
     {
-        let Gathering { plan: _, kept } = self;
+        let Gathering {
+            plan: _,
+            filter: _,
+            kept,
+        } = self;
         if kept.len() > ROWS_MAX {
             return Err(NoMemory);
         }
@@ -89,7 +96,7 @@ impl<'a> TakeRow for Gathering<'a> {
         ensures words { leaves_words self.new.plan.leaves ≡ leaves_words self.old.plan.leaves }
         ensures about { self.new.plan ≡ self.old.plan }
     {
-        if kept(self.plan, row) {
+        if self.filter.keeps(row) {
             self.kept.push(row)?;
         }
         Ok(())
@@ -98,7 +105,7 @@ impl<'a> TakeRow for Gathering<'a> {
 
 // Gathers them, where it is known that the leaves can be read.
 fn gather(
-    alloc: Global,
+    gathering: Gathering<'_>,
     plan: &Plan,
     row: &mut [u64],
     pass: Pass,
@@ -108,15 +115,16 @@ fn gather(
     requires here { IsPassOf region.now pass }
     requires coll { coll < length pass.shape.colls }
     requires fits { AllByRecursion FitsRecord plan.now.leaves }
-    requires typed { IfSome (filter_condition plan.now.filter) (IsTyped plan.now.leaves) }
     requires long { length row.old ≡ leaves_words plan.now.leaves }
+    requires plan { gathering.plan ≡ plan.now }
+    requires none { HasGathered gathering [] }
     ensures done { IfOk result.1 (λ rows. DoesSome pass result.0 (InSection (KeepsRows pass.shape coll (plan_tree plan.now) rows.rows))) }
     ensures width { IfOk result.1 (λ rows. rows.width ≡ leaves_words plan.now.leaves) }
     ensures few { IfOk result.1 (λ rows. length rows.rows ≤ ROWS_MAX) }
     ensures home { IsSame pass result.0 }
     ensures free { OwnsNone pass → OwnsNone result.0 }
 {
-    let mut gathering = Gathering::new(alloc, plan);
+    let mut gathering = gathering;
     let (pass, done) = scan_rows(pass, region, coll, plan.leaves(), row, &mut gathering);
     match done {
         Ok(()) => (pass, gathering.into_rows()),
@@ -150,5 +158,8 @@ pub(crate) fn kept_rows(
         Ok(row) => row,
         Err(fault) => return (pass, Err(fault)),
     };
-    gather(alloc, plan, &mut row, pass, region, coll)
+    match Gathering::new(alloc, plan) {
+        Ok(gathering) => gather(gathering, plan, &mut row, pass, region, coll),
+        Err(fault) => (pass, Err(fault)),
+    }
 }

@@ -17,10 +17,10 @@ returns-in-Ok-clause-done c =
     let old = c.args.pass in
     let new = c.scan_rows-pass.result.0 in
     let gathered = c.scan_rows-pass.new.rows in
-    let is_for : gathered.plan ≡ plan = c.scan_rows-pass.ensures.about ∙ c.new-gathering.ensures.plan in
+    let is_for : gathered.plan ≡ plan = c.scan_rows-pass.ensures.about ∙ c.requires.plan in
     let does = rw (c.in-Ok.is, c.leaves.ensures) at c.scan_rows-pass.ensures.done in
     let keeps : DoesSome old new (InSection (KeepsRows old.shape c.args.coll (plan_tree plan) gathered.kept.rows)) =
-    rows-kept old new old.shape c.args.coll (plan_tree plan) (HasGathered c.new-gathering.result) (HasGathered gathered) gathered.kept.rows c.new-gathering.ensures.none
+    rows-kept old new old.shape c.args.coll (plan_tree plan) (HasGathered c.args.gathering) (HasGathered gathered) gathered.kept.rows c.requires.none
     (λ rows has. has ∙ ap (λ (p : Plan). kept_rows (plan_tree p) rows) is_for) does in
     IfOk-weaker c.into_rows.result (λ rows. rows ≡ gathered.kept) (λ rows. DoesSome old new (InSection (KeepsRows old.shape c.args.coll (plan_tree plan) rows.rows)))
     (λ rows is. subst (λ (k : RowList). DoesSome old new (InSection (KeepsRows old.shape c.args.coll (plan_tree plan) k.rows))) (sym is) keeps) c.into_rows.ensures.rows
