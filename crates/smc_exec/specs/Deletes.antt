@@ -2,8 +2,10 @@
 use Rattle.std.specs.Prelude.{◌≡◌, ℕ, List, if◌then◌else◌}
 use Rattle.smc_shape.specs.Layout.{Layout}
 use Rattle.smc_plan.specs.Planned.{Planned}
+use Rattle.smc_plan.specs.declared.plan.Plan.{Plan}
 use Rattle.smc_trace.specs.Trace.{CallEnd}
 use Rattle.smc_meaning.specs.Kept.{is_kept}
+use Rattle.smc_filter.specs.Filters.{Filtered}
 use Rattle.smc_visits.specs.Edits.{EditsRows}
 use Rattle.smc_visits.specs.declared.edits.Edit.{Edit}
 use Rattle.smc_visits.specs.declared.edits.Edit.TheVariants.{Leave, Remove}
@@ -18,3 +20,8 @@ pub record DeletesRows (shape : Layout) (coll : ℕ) (plan : Planned) (removed :
   pub edits : Edits
   pub rows : EditsRows shape coll plan.leaves (deletes plan) edits calls
   pub count : removed ≡ edits.removed
+
+-- the filter is made of the plan
+pub record IsFilterOf (plan : Plan) (filter : Filtered) : Type 0 where
+  pub leaves : filter.leaves ≡ plan.leaves
+  pub condition : filter.condition ≡ plan.filter

@@ -14,7 +14,7 @@ ghost use Rattle.smc_exec.specs.Queries.{AnswersRows};
 
 use crate::laws::queries_can_run;
 use crate::pushing::push_rows;
-use crate::query::query_rows;
+use crate::query::kept_rows;
 use smc_folds::{Bench, Fold};
 use smc_kernel::is_plain;
 use smc_meaning::{Rows, slow};
@@ -70,7 +70,7 @@ pub fn answer(
     if plan.by.as_slice().is_empty() && is_plain(plan) {
         return push_rows(alloc, plan, pass, region, coll);
     }
-    let (pass, rows) = query_rows(alloc, plan, pass, region, coll);
+    let (pass, rows) = kept_rows(alloc, plan, pass, region, coll);
     match rows {
         Ok(rows) => (pass, answer_text(alloc, plan, bench, &rows)),
         Err(fault) => (pass, Err(fault)),

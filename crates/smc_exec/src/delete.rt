@@ -14,7 +14,7 @@ ghost use Rattle.smc_exec.specs.Plans.{IsPlanned};
 
 use crate::buffer::row_buffer;
 use crate::laws::queries_can_run;
-use smc_meaning::kept;
+use smc_filter::Filter;
 use smc_plan::Plan;
 use smc_region::{Pass, Region};
 use smc_visits::{DecideEdit, Edit, edit_rows};
@@ -26,6 +26,7 @@ use std::marker::Model;
 #[derive(Drop)]
 struct Deleting<'a> {
     plan: &'a Plan,
+    filter: Filter<'a>,
 }
 
 impl<'a> Model for Deleting<'a> {
@@ -33,9 +34,7 @@ impl<'a> Model for Deleting<'a> {
     ghost use Rattle.smc_plan.specs.contracts.condition.TypedCond as condition;
     ghost use Rattle.smc_plan.specs.contracts.typed.Typed as typed;
     ghost use Rattle.smc_plan.specs.declared.plan.Plan.{Plan};
-    ghost use Rattle.smc_plan.specs.Planned.{filter_condition};
-    ghost use Rattle.std.specs.Prelude.{IfSome};
-    ghost use Rattle.smc_plan.specs.Kinds.{IsTyped};
+    ghost use Rattle.smc_exec.specs.Deletes.{IsFilterOf};
 
     ghost Value = { Plan };
 
@@ -43,7 +42,7 @@ impl<'a> Model for Deleting<'a> {
 
     ghost view = { λ deleting. deleting.plan.now };
 
-    ghost invariant = { λ deleting. IfSome (filter_condition deleting.plan.now.filter) (IsTyped deleting.plan.now.leaves) };
+    ghost invariant = { λ deleting. IsFilterOf deleting.plan.now deleting.filter };
 }
 
 impl<'a> DecideEdit for Deleting<'a> {
@@ -58,7 +57,7 @@ impl<'a> DecideEdit for Deleting<'a> {
         ensures edit { result ≡ deletes (plan_tree self.now) row.now }
         ensures fits { FitsEdit 0 result }
     {
-        if kept(self.plan, row) {
+        if self.filter.keeps(row) {
             Edit::Remove
         } else {
             Edit::Leave
@@ -67,25 +66,37 @@ impl<'a> DecideEdit for Deleting<'a> {
 }
 
 // Removes them, where what the plan asks of rows is known.
-fn delete_typed(plan: &Plan, row: &mut [u64], pass: Pass, region: &Region, coll: u8) -> (Pass, u64)
+fn delete_typed(
+    alloc: Global,
+    plan: &Plan,
+    row: &mut [u64],
+    pass: Pass,
+    region: &Region,
+    coll: u8,
+) -> (Pass, Result<u64, NoMemory>)
     requires here { IsPassOf region.now pass }
     requires coll { coll < length pass.shape.colls }
     requires fits { AllByRecursion FitsRecord plan.now.leaves }
     requires typed { IfSome (filter_condition plan.now.filter) (IsTyped plan.now.leaves) }
     requires long { length row.old ≡ leaves_words plan.now.leaves }
-    ensures done { DoesSome pass result.0 (InSection (DeletesRows pass.shape coll (plan_tree plan.now) result.1)) }
+    ensures done { IfOk result.1 (λ removed. DoesSome pass result.0 (InSection (DeletesRows pass.shape coll (plan_tree plan.now) removed))) }
+    ensures kept { OnErr result.1 (result.0 ≡ pass) }
     ensures home { IsSame pass result.0 }
 {
-    let deleting = Deleting { plan };
+    let filter = match Filter::of(alloc, plan.leaves(), &plan.filter) {
+        Ok(filter) => filter,
+        Err(fault) => return (pass, Err(fault)),
+    };
+    let deleting = Deleting { plan, filter };
     let (pass, edits) = edit_rows(pass, region, coll, plan.leaves(), row, &deleting);
-    (pass, edits.removed)
+    (pass, Ok(edits.removed))
 }
 
 /// Removes each object of the collection whose row the plan keeps, in a section of its own. Answers how many removals were
 /// the first of their object.
 ///
 /// # Errors
-/// Memory was refused for one row. Then nothing was done.
+/// Memory was refused. Then nothing was done.
 pub fn delete_rows(
     alloc: Global,
     plan: &Plan,
@@ -105,6 +116,5 @@ pub fn delete_rows(
         Ok(row) => row,
         Err(fault) => return (pass, Err(fault)),
     };
-    let (pass, removed) = delete_typed(plan, &mut row, pass, region, coll);
-    (pass, Ok(removed))
+    delete_typed(alloc, plan, &mut row, pass, region, coll)
 }

@@ -26,7 +26,7 @@ fn holds(op: Op, order: Ordering) -> bool
 }
 
 /// Whether a condition holds of a row.
-pub(crate) fn meets(leaves: &[Leaf], condition: &TypedCond, row: &[u64]) -> bool
+pub fn meets(leaves: &[Leaf], condition: &TypedCond, row: &[u64]) -> bool
     requires words { length row.now ≡ leaves_words leaves.now }
     requires sides { IsTyped leaves.now (condition_tree condition.now) }
     ensures { result ≡ meets leaves.now (condition_tree condition.now) row.now }

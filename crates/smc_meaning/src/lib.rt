@@ -47,7 +47,7 @@ pub use comparing::compare_rows;
 pub use decimal::Decimal;
 pub use editing::{Edited, edit};
 pub use extremes::End;
-pub use filter::kept;
+pub use filter::{kept, meets};
 pub use rows::{ROWS_MAX, Rows};
 pub use text::TextIn;
 pub use value::{Sort, day_at, number_at, sort_at, text_at};

@@ -1,5 +1,5 @@
 //! Rows of words, one behind the other.
-ghost use Rattle.std.specs.Prelude.{◌≡◌, ◌<◌, ◌++◌, ◌∷◌, [], Some, OnOk, length, slice_get};
+ghost use Rattle.std.specs.Prelude.{◌≡◌, ◌<◌, ◌++◌, ◌∷◌, [], Some, OnErr, OnOk, length, slice_get};
 
 use smc_words::NoMemory;
 use std::alloc::Global;
@@ -68,7 +68,8 @@ impl Rows {
     /// Puts a row behind all others.
     pub fn push(&mut self, row: &[u64]) -> Result<(), NoMemory>
         requires { length row.now ≡ self.old.width }
-        ensures { OnOk result (self.new ≡ record self.old { rows = self.old.rows ++ row.now ∷ [] }) }
+        ensures put { OnOk result (self.new ≡ record self.old { rows = self.old.rows ++ row.now ∷ [] }) }
+        ensures kept { OnErr result (self.new ≡ self.old) }
     {
         let Some(count) = self.count.checked_add(1) else {
             return Err(NoMemory);

@@ -3,7 +3,6 @@ pub mod VisitLaws
 pub mod EditLaws
 pub mod StillLaws
 pub mod FitLaws
-pub mod TakenLaws
 pub mod FrontLaws
 pub mod ReadFronts
 pub mod EditFronts

@@ -6,7 +6,7 @@ use Rattle.smc_plan.specs.Planned.{plan_tree}
 use Rattle.smc_meaning.specs.Answers.{answer_of}
 use Rattle.smc_meaning.specs.Printed.{answer_text}
 use Rattle.smc_exec.specs.Queries.{AnswersRows}
-use Rattle.smc_exec.proofs.QueryLaws.{rows-answered}
+use Rattle.smc_exec.proofs.QueryLaws.{kept-answered}
 use Rattle.smc_exec.proofs.answering.answer.Goals as goal
 
 pub push_rows-requires-clause-fits : goal.push_rows-requires-clause-fits
@@ -23,9 +23,9 @@ returns-in-Ok-clause-done g c =
     let plan = plan_tree c.args.plan.now in
     let kinds = (map (λ b. (goal.Fold-dyn g (b.fold.vtable, b.fold.value)).kind b.fold.value) c.args.bench.now.boxes.items) in
     let old = c.args.pass in
-    let new = c.query_rows-pass.result.0 in
+    let new = c.kept_rows-pass.result.0 in
     let rows = c.in-Ok.rows.rows in
-    let does = rw c.in-Ok.is at c.query_rows-pass.ensures.done in
+    let does = rw c.in-Ok.is at c.kept_rows-pass.ensures.done in
     IfOk-weaker c.answer_text.result (λ text. text.items ≡ answer_text (answer_of plan kinds rows))
     (λ text. DoesSome old new (InSection (AnswersRows old.shape c.args.coll plan kinds text.items)))
-    (λ text is. rows-answered old new old.shape c.args.coll plan kinds rows text.items does is) c.answer_text.ensures.text
+    (λ text is. kept-answered old new old.shape c.args.coll plan kinds rows text.items does is) c.answer_text.ensures.text

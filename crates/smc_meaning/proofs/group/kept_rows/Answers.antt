@@ -10,7 +10,7 @@ loop-place-preserved c = elim c.if-kept.branch [
   | then-kept+in_ok-push w ↦
       rw w.all-is
       (chosen_more (is_kept (plan_tree c.args.plan.now)) c.args.rows.now c.loop-place.all w.push.new.self c.loop-place.place c.get-row.result.now
-      c.loop-place.invariant c.get-row.ensures.row (sym c.kept.ensures ∙ w.if-kept.true) w.in_ok-push.ensures)
+      c.loop-place.invariant c.get-row.ensures.row (sym c.kept.ensures ∙ w.if-kept.true) w.in_ok-push.ensures.put)
   | else-kept w ↦
       rw w.all-is
       (chosen_none (is_kept (plan_tree c.args.plan.now)) c.args.rows.now c.loop-place.all c.loop-place.place c.get-row.result.now

@@ -10,7 +10,7 @@ loop-place-preserved c = elim c.if-same_key.branch [
   | then-same_key+in_ok-push w ↦
       rw w.group-is
       (chosen_more (same_key (plan_tree c.args.plan.now) c.args.first.now) c.args.rows.now c.loop-place.group w.push.new.self c.loop-place.place c.get-row.result.now
-      c.loop-place.invariant c.get-row.ensures.row (sym c.same_key.ensures ∙ w.if-same_key.true) w.in_ok-push.ensures)
+      c.loop-place.invariant c.get-row.ensures.row (sym c.same_key.ensures ∙ w.if-same_key.true) w.in_ok-push.ensures.put)
   | else-same_key w ↦
       rw w.group-is
       (chosen_none (same_key (plan_tree c.args.plan.now) c.args.first.now) c.args.rows.now c.loop-place.group c.loop-place.place c.get-row.result.now
