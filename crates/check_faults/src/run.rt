@@ -5,9 +5,10 @@ ghost use Rattle.smc_script.specs.Sound.{IsSound};
 
 use crate::pieces::Pieces;
 use anyhow::bail;
-use smc_desk::{Ran, RunEnd, fold_names, run_alone, unknown_line};
+use smc_desk::{fold_names, unknown_line};
 use smc_folds::Bench;
 use smc_outside::{MemShelf, MemSink, MemSource, Sink};
+use smc_runner::{Ran, RunEnd, run_script};
 use smc_script::{Script, ScriptFault, read_script};
 use smc_types::{Catalog, tpch};
 use smc_words::NoMemory;
@@ -118,7 +119,7 @@ fn run_known<O: Sink>(
     match unknown {
         Some(line) => bail!("line {line} is not run"),
         None => {
-            let Ran { end, quiet } = run_alone(alloc, script, catalog, bench, shelf, out);
+            let Ran { end, quiet } = run_script(alloc, script, catalog, bench, shelf, out);
             if let Some(quiet) = quiet {
                 quiet.free();
             }

@@ -7,7 +7,7 @@ use Rattle.smc_does.proofs.DoesLaws.{does-nothing}
 use Rattle.smc_folds.specs.Kinds.{Kind, without_first}
 use Rattle.smc_query.specs.Trees.{Word}
 use Rattle.smc_replies.specs.Folds.{DropsFold, dropped_line}
-use Rattle.smc_desk.specs.Runs.{seen}
+use Rattle.smc_desk.specs.Scenes.{seen}
 use Rattle.smc_desk.specs.declared.books.Books.{Books}
 
 -- the folds that are left are those of the books behind it

@@ -2,8 +2,6 @@ pub mod ColumnLaws
 pub mod NameLaws
 pub mod ObjectLaws
 pub mod LoadLaws
-pub mod RunLaws
 pub mod EditLaws
 pub mod QueryLaws
 pub mod FoldLaws
-pub mod DropLaws

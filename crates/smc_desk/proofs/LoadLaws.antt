@@ -12,7 +12,7 @@ use Rattle.smc_load.specs.declared.fault.LoadFault.{LoadFault}
 use Rattle.smc_load.specs.declared.fault.LoadFault.TheVariants as fault
 use Rattle.smc_replies.specs.Books.{Books, KnowsSame}
 use Rattle.smc_replies.specs.Loads.{LoadsBy, loaded_line}
-use Rattle.smc_desk.specs.Runs.{LoadStops}
+use Rattle.smc_desk.specs.Stops.{LoadStops}
 
 -- all of it was
 pub load-done : (by : Option Schema) (schema : Schema) (files : Told) (place : Place) (file : Word) (known now : Books) (old new : Caller) (count : ℕ) (text : List ℕ) → by ≡ Some schema

@@ -2,7 +2,7 @@
 ghost use Rattle.std.specs.Prelude.{◌≡◌, [], IfSome, List, OnOk};
 ghost use Rattle.smc_folds.specs.Kinds.{Kind};
 ghost use Rattle.smc_replies.specs.Books.{books_of, named, object_of, with_name};
-ghost use Rattle.smc_desk.specs.Runs.{seen};
+ghost use Rattle.smc_desk.specs.Scenes.{seen};
 
 use smc_types::Keys;
 use smc_words::{NoMemory, Number};

@@ -8,7 +8,8 @@ ghost use Rattle.smc_types.specs.Tables.{the_tables};
 ghost use Rattle.smc_script.specs.Tables as tables;
 ghost use Rattle.smc_replies.specs.Commands.{IsTableOf};
 ghost use Rattle.smc_replies.specs.Loads.{LoadsBy};
-ghost use Rattle.smc_desk.specs.Runs.{LoadStops, seen};
+ghost use Rattle.smc_desk.specs.Scenes.{seen};
+ghost use Rattle.smc_desk.specs.Stops.{LoadStops};
 
 use crate::books::Books;
 use crate::reply::{Reply, loaded_reply};
@@ -24,7 +25,7 @@ use std::alloc::Global;
 ///
 /// # Errors
 /// The rows before the fault stay, with their keys.
-pub(crate) fn load_table<F: Shelf>(
+pub fn load_table<F: Shelf>(
     alloc: Global,
     place: Place,
     file: &FileName,

@@ -12,7 +12,7 @@ ghost use Rattle.smc_script.specs.Tables as tables;
 ghost use Rattle.smc_replies.specs.Books.{object_of, with_name};
 ghost use Rattle.smc_replies.specs.Commands.{IsTableOf};
 ghost use Rattle.smc_replies.specs.Objects.{AddsBy, GetsBy, GetsObject, OnObject, RemovesNamed, SetsBy, add_line};
-ghost use Rattle.smc_desk.specs.Runs.{seen};
+ghost use Rattle.smc_desk.specs.Scenes.{seen};
 
 use crate::books::{Books, Names};
 use crate::columns::{word_of, words_of};

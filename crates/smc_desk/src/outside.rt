@@ -4,7 +4,7 @@ ghost use Rattle.smc_region.specs.Callers.{IsPassOf, IsSame};
 ghost use Rattle.smc_does.specs.Does.{DoesSome, OwnsNone};
 ghost use Rattle.smc_script.specs.Trees.{command_tree};
 ghost use Rattle.smc_types.specs.Tables.{the_tables};
-ghost use Rattle.smc_desk.specs.Runs.{scene_of, seen};
+ghost use Rattle.smc_desk.specs.Scenes.{scene_of, seen};
 ghost use Rattle.smc_load.specs.Files.{Told};
 ghost use Rattle.smc_replies.specs.Commands.{CanRun, Counts, PacksTable, RunsCommand, is_load, objects_line};
 

@@ -90,7 +90,7 @@ pub(crate) fn loaded_reply(alloc: Global, table: &str, count: u64) -> Result<Rep
 }
 
 /// The line that says which fold was dropped.
-pub(crate) fn dropped_line(alloc: Global, name: &str) -> Result<Reply, NoMemory>
+pub fn dropped_line(alloc: Global, name: &str) -> Result<Reply, NoMemory>
     ensures { IfOk result (λ reply. reply ≡ dropped_line name.now) }
 {
     Ok(Reply::of(format!(in alloc; "dropped {name}\n")?))

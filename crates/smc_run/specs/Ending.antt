@@ -4,8 +4,8 @@ use Rattle.smc_tbl.specs.declared.fault.TblFault.{TblFault}
 use Rattle.smc_tbl.specs.declared.fault.TblFault.TheVariants as fault
 use Rattle.smc_script.specs.declared.fault.ScriptFault.{ScriptFault}
 use Rattle.smc_script.specs.declared.fault.ScriptFault.TheVariants as script
-use Rattle.smc_desk.specs.declared.alone.RunEnd.{RunEnd}
-use Rattle.smc_desk.specs.declared.alone.RunEnd.TheVariants as run
+use Rattle.smc_runner.specs.declared.ending.RunEnd.{RunEnd}
+use Rattle.smc_runner.specs.declared.ending.RunEnd.TheVariants as run
 use Rattle.smc_run.specs.declared.status.Status.{Status}
 use Rattle.smc_run.specs.declared.status.Status.TheVariants.{Done, BadWords, BadScript, BadTable, NoFile, ReadFault, WriteFault, TableFull, NoMemory}
 

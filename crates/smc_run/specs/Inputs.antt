@@ -11,9 +11,9 @@ use Rattle.smc_load.specs.Files.{Told}
 use Rattle.smc_folds.specs.Kinds.{Kind}
 use Rattle.smc_replies.specs.Books.{fold_names}
 use Rattle.smc_replies.specs.Scripts.{unknown_line}
-use Rattle.smc_desk.specs.declared.alone.RunEnd.{RunEnd}
-use Rattle.smc_desk.specs.declared.alone.RunEnd.TheVariants as end
-use Rattle.smc_desk.specs.Runs.{RunsTo}
+use Rattle.smc_runner.specs.declared.ending.RunEnd.{RunEnd}
+use Rattle.smc_runner.specs.declared.ending.RunEnd.TheVariants as end
+use Rattle.smc_runner.specs.Runs.{RunsTo}
 use Rattle.smc_run.specs.declared.status.Status.{Status}
 use Rattle.smc_run.specs.declared.status.Status.TheVariants.{Done, BadScript, BadTable, NoFile, ReadFault, WriteFault, TableFull, NoMemory}
 

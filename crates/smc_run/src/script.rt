@@ -10,10 +10,11 @@ ghost use Rattle.smc_run.specs.Tally.{ReadsToEnd};
 
 use crate::ended::Ended;
 use crate::status::Status;
-use smc_desk::{Ran, RunEnd, fold_names, run_alone, unknown_line};
+use smc_desk::{fold_names, unknown_line};
 use smc_folds::{Bench, Fold};
 use smc_history::laws::what_happened_is_lawful;
 use smc_outside::{Shelf, Sink, Source};
+use smc_runner::{Ran, RunEnd, run_script};
 use smc_script::{Script, ScriptFault, read_script};
 use smc_types::{Catalog, tpch};
 use std::alloc::Global;
@@ -73,7 +74,7 @@ fn run_known<F: Shelf, O: Sink>(
     match unknown {
         Some(line) => Ended::at(Status::BadScript { line }),
         None => {
-            let Ran { end, quiet } = run_alone(alloc, script, catalog, bench, shelf, out);
+            let Ran { end, quiet } = run_script(alloc, script, catalog, bench, shelf, out);
             Ended {
                 status: status_of_run(end),
                 quiet,

@@ -12,7 +12,7 @@ use Rattle.smc_replies.specs.Commands.{Counts, PacksTable, RunsCommand, objects_
 use Rattle.smc_replies.specs.Edits.{DeletesWhere, UpdatesWhere}
 use Rattle.smc_replies.specs.Queries.{AnswersQuery}
 use Rattle.smc_replies.specs.Objects.{GetsBy, OnObject, RemovesNamed, SetsBy}
-use Rattle.smc_desk.specs.Runs.{scene_of, seen}
+use Rattle.smc_desk.specs.Scenes.{scene_of, seen}
 use Rattle.smc_desk.proofs.FoldLaws.{drop-run}
 use Rattle.smc_desk.proofs.ObjectLaws.{kept-run}
 use Rattle.smc_desk.proofs.outside.one.Goals as goal

@@ -1,5 +1,0 @@
-use Rattle.std.proofs.Common.{length}
-use Rattle.smc_desk.proofs.roomless.+drop_parts.Given as goal
-
-abbrev pub decreases-drop_parts : goal.decreases-drop_parts
-decreases-drop_parts g l = length l.parts.now
